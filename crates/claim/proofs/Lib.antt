@@ -1,0 +1,4 @@
+mod Numbers
+mod Reading
+mod Making
+mod Changed

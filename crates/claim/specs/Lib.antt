@@ -1,0 +1,4 @@
+pub mod Luhn
+pub mod Refusals
+pub mod Code
+pub mod Laws
