@@ -1,4 +1,4 @@
-mod Numbers
-mod Reading
-mod Making
+pub mod Numbers
+pub mod Reading
+pub mod Making
 mod Changed

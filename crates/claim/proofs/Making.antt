@@ -1,6 +1,6 @@
 -- What making a code writes, and that reading takes it back.
 use mathlib.Core.Path.{_≡_, refl, ap, _∙_, sym}
-use mathlib.Core.Bool.{true}
+use mathlib.Core.Bool.{Bool, true, false}
 use mathlib.Core.List.{List, [], _∷_, _++_}
 use Prim.Native.Nat.{ℕ, _<_, _≤_, _+_, _-_, _^_}
 use native.Mathlib.Omega.{arith}
@@ -12,10 +12,12 @@ use Rattle.std.specs.shelf.Text.{allDigits}
 use Rattle.std.specs.declared.result.Result.{Result}
 use Rattle.std.specs.declared.result.Result.the-variants.{Ok, Err}
 use Rattle.std.proofs.shelf.Lists.{set-at, drop-more, append-assoc, take-at, take-all, getD-at, getD-append-left}
+use Rattle.std.proofs.shelf.Tests.{le-ltb}
 use Rattle.std.proofs.shelf.Decimals.{length-decimal-le, decimal-some, first-decimal, digits-decimal, value-decimal}
 use Rattle.claim.specs.declared.refusal.CodeRefusal.{CodeRefusal}
+use Rattle.claim.specs.declared.refusal.CodeRefusal.the-variants.{BadNumber}
 use Rattle.claim.specs.Luhn.{checkDigit}
-use Rattle.claim.specs.Code.{longest, largest, digitsIn, codeOf, making, memory, valueAfter, front, numberIn, reading}
+use Rattle.claim.specs.Code.{longest, largest, digitsIn, codeOf, coded, making, valueAfter, front, numberIn, reading}
 use Rattle.claim.proofs.Numbers.{numerals}
 use Rattle.claim.proofs.Reading.{WellFormed, Checked, accepted, digits-append}
 
@@ -23,7 +25,7 @@ use Rattle.claim.proofs.Reading.{WellFormed, Checked, accepted, digits-append}
 abbrev checkByte : ℕ → ℕ
 checkByte n = 48 + checkDigit (digitsIn (decimal n))
 
-length-code : (n : ℕ) → length (codeOf n) ≡ length (decimal n) + 1
+pub length-code : (n : ℕ) → length (codeOf n) ≡ length (decimal n) + 1
 length-code n = length-append (decimal n) (checkByte n ∷ [])
 
 check-is-digit : (n : ℕ) → allDigits (checkByte n ∷ []) ≡ true
@@ -40,6 +42,12 @@ module _ (n : ℕ) (some : 0 < n) (small : n ≤ largest) where
   pub digits-all : allDigits (decimal n) ≡ true
   digits-all = digits-decimal numerals n (omega arith)
 
+  pub code-digits : allDigits (codeOf n) ≡ true
+  code-digits = digits-append (decimal n) _ digits-all (check-is-digit n)
+
+  pub code-some : 0 < length (codeOf n)
+  code-some = omega (arith, length-code n)
+
   -- a number's code is read as that number
   pub code-reads : reading (codeOf n) ≡ Ok n
   code-reads =
@@ -55,36 +63,43 @@ module _ (n : ℕ) (some : 0 < n) (small : n ≤ largest) where
       record {
         two = omega arith;
         most = omega arith;
-        digits = digits-append (decimal n) _ digits-all (check-is-digit n);
+        digits = code-digits;
         first = λ e. omega arith;
         small = omega arith;
       } in
       accepted (codeOf n) good right ∙ ap (λ k. Ok k) number
 
   module _ (out : List ℕ) (room : longest ≤ length out) where
-    pub made-answer : _≡_ {A = Result ℕ CodeRefusal} (Ok (length (decimal n) + 1)) (making n out)
-    made-answer = let e = length-code n in search (needs, e)
-
-    made-memory : memory n out ≡ codeOf n ++ drop (length (codeOf n)) out
-    made-memory = search needs
-
-    -- the digits put in front, then the check digit behind them, give the memory that is promised
-    pub writes-code : (part written : List ℕ) (d : ℕ) → part ≡ decimal n → written ≡ part → d ≡ 48 + checkDigit (digitsIn part) → set (written ++ drop (length part - 0) out) (length part) d ≡ memory n out
+    -- the digits put in front of the memory, and then the check digit behind them
+    pub writes-code : (part written : List ℕ) (d : ℕ) → part ≡ decimal n → written ≡ part → d ≡ 48 + checkDigit (digitsIn part) → set (written ++ drop (length part - 0) out) (length part) d ≡ codeOf n ++ drop (length (codeOf n)) out
     writes-code part written d p w e =
         let short = digits-short in
-        let len = length-code n in
         let behind = drop-more out (length (decimal n)) 0 (omega arith) in
         rw (e, w, p, sub-zero)
         (
         ap (λ l. set (decimal n ++ l) (length (decimal n)) (checkByte n)) behind
         ∙ set-at (decimal n) _ _ _ _ refl
-        ∙ ap (λ k. decimal n ++ (checkByte n ∷ drop k out)) (sym len)
+        ∙ ap (λ k. decimal n ++ (checkByte n ∷ drop k out)) (sym (length-code n))
         ∙ sym (append-assoc (decimal n) (checkByte n ∷ []) (drop (length (codeOf n)) out))
-        ∙ sym made-memory
         )
 
-    pub reads-back : reading (take (length (decimal n) + 1) (memory n out)) ≡ Ok n
-    reads-back =
-        ap (λ l. reading (take (length (decimal n) + 1) l)) made-memory
-        ∙ ap reading (take-at (codeOf n) _ (length (decimal n) + 1) (length-code n))
-        ∙ code-reads
+    pub reads-back : reading (take (length (decimal n) + 1) (codeOf n ++ drop (length (codeOf n)) out)) ≡ Ok n
+    reads-back = ap reading (take-at (codeOf n) _ (length (decimal n) + 1) (length-code n)) ∙ code-reads
+
+-- which numbers are refused where there is room
+pub on-made : (n k : ℕ) (out : List ℕ) → Ok k ≡ making n out → coded n ≡ true
+on-made n k out h = by (coded n) refl
+  where
+    by : (t : Bool) → coded n ≡ t → coded n ≡ true
+    by true e = e
+    by false e = let r : _≡_ {A = Result ℕ CodeRefusal} (Ok k) (Err BadNumber) = h ∙ rw e in let z : _≡_ {A = ℕ} 0 1 = cc in absurd (omega arith)
+
+pub on-refused : (n : ℕ) (why : CodeRefusal) (out : List ℕ) → longest ≤ length out → Err why ≡ making n out → (coded n ≡ false) × (why ≡ BadNumber)
+on-refused n why out room h = by (coded n) refl
+  where
+    by : (t : Bool) → coded n ≡ t → (coded n ≡ false) × (why ≡ BadNumber)
+    by false e = (e, let r : _≡_ {A = Result ℕ CodeRefusal} (Err why) (Err BadNumber) = h ∙ rw e in cc)
+    by true e =
+        let r : _≡_ {A = Result ℕ CodeRefusal} (Err why) (Ok (length (codeOf n))) = h ∙ rw (e, le-ltb (length out) longest room) in
+        let z : _≡_ {A = ℕ} 0 1 = cc in
+        absurd (omega arith)

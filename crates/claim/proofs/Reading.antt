@@ -59,16 +59,12 @@ passes code h =
     (and-from _ _ (h .digits)
     (and-from _ _ (not-from-false _ (ne-eqb (getD code 0 0) 48 (h .first))) (le-leb (numberIn code) largest (h .small)))))
 
--- the three answers of reading
-pub malformed : (code : List ℕ) → (WellFormed code → ⊥) → reading code ≡ Err BadNumber
-malformed code bad = by (wellFormed code) refl
+pub fails : (code : List ℕ) → (WellFormed code → ⊥) → wellFormed code ≡ false
+fails code bad = by (wellFormed code) refl
   where
-    by : (t : Bool) → wellFormed code ≡ t → reading code ≡ Err BadNumber
+    by : (t : Bool) → wellFormed code ≡ t → wellFormed code ≡ false
     by true e = absurd (bad (tested code e))
-    by false e = rw e
-
-pub mischecked : (code : List ℕ) → WellFormed code → (Checked code → ⊥) → reading code ≡ Err BadCheck
-mischecked code good bad = rw (passes code good, ne-eqb (lastOf code) (48 + checkDigit (digitsIn (front code))) bad)
+    by false e = e
 
 pub accepted : (code : List ℕ) → WellFormed code → Checked code → reading code ≡ Ok (numberIn code)
 accepted code good right = rw (passes code good, eq-eqb (lastOf code) (48 + checkDigit (digitsIn (front code))) right)

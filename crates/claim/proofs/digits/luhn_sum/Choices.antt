@@ -3,7 +3,7 @@ use mathlib.Core.Path.{_≡_}
 use lib.ListN.{drop}
 use Rattle.claim.specs.Code.{digitsIn}
 use Rattle.claim.specs.Luhn.{total}
-use Rattle.claim.proofs.digits.check_digit.Given as given
+use Rattle.claim.proofs.digits.luhn_sum.Given as given
 
 -- what is summed and what is left to sum make the total
 abbrev pub Inv-loop-i : given.InvT-loop-i

@@ -7,13 +7,12 @@ use Rattle.std.proofs.shelf.Lists.{at-drop-more, at-drop-all}
 use Rattle.claim.specs.Code.{digitsIn}
 use Rattle.claim.specs.Luhn.{total, weight}
 use Rattle.claim.proofs.Numbers.{digit-byte}
-use Rattle.claim.proofs.digits.check_digit.Needs as need
-
-pub sub-b : need.sub-b
-sub-b c = omega (arith, digit-byte (c .args .digits .now) (c .loop-i .i) (c .pre .0) (omega arith))
+use Rattle.claim.proofs.digits.luhn_sum.Needs as need
 
 pub weigh-sum-requires : need.weigh-sum-requires
-weigh-sum-requires c κs = omega (arith, digit-byte (c .args .digits .now) (c .loop-i .i) (c .pre .0) (omega arith))
+weigh-sum-requires c κs =
+    let byte = digit-byte (c .args .digits .now) (c .loop-i .i) (c .pre .0) (omega arith) in
+    (byte .0, (byte .1, c .loop-i-test .taken))
 
 pub loop-i-again : need.loop-i-again
 loop-i-again c =
@@ -27,6 +26,4 @@ loop-i-again c =
     (omega arith, omega (arith, more, added, c .loop-i .inv .1))
 
 pub returns : need.returns
-returns c =
-    let all = at-drop-all (λ l. total (digitsIn l)) (c .args .digits .now) (c .loop-i .i) (omega arith) in
-    record { is-the-check-digit = omega (arith, all, c .loop-i .inv .1) }
+returns c = omega (arith, at-drop-all (λ l. total (digitsIn l)) (c .args .digits .now) (c .loop-i .i) (omega arith), c .loop-i .inv .1)

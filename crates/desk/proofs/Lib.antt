@@ -1,0 +1,3 @@
+mod Splitting
+mod Saying
+mod Finding

@@ -1,0 +1,14 @@
+-- What may be relied on at the desk.
+use mathlib.Core.Path.{_≡_}
+use mathlib.Core.List.{List, _++_}
+use Prim.Native.Nat.{ℕ, _<_, _≤_}
+use lib.Chars.{codes}
+use Rattle.std.specs.Written.{decimal}
+use Rattle.claim.specs.Code.{largest, codeOf}
+use Rattle.desk.specs.Replies.{madeReply, foundReply, replyTo}
+
+-- on every line, each session number is answered with its claim code, and that code with the session number
+abbrev pub FindsEachSession : Type 0
+FindsEachSession =
+    (line session : ℕ) → 0 < session → session ≤ largest
+    → (replyTo line (codes "make " ++ decimal session) ≡ madeReply session) × (replyTo line (codes "read " ++ codeOf session) ≡ foundReply (codeOf session) session)

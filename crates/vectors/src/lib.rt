@@ -1,0 +1,3 @@
+// Outside vectors and edge cases: examples with their expected results, run through the public calls.
+#[cfg(test)]
+mod claim_codes;
