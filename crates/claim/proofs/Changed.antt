@@ -3,11 +3,10 @@ use mathlib.Core.Path.{_≡_, refl, ap, _∙_, sym}
 use mathlib.Core.Logic.{⊎-elim}
 use mathlib.Core.Bool.{Bool, true, false, cond}
 use mathlib.Core.List.{List, [], _∷_, _++_}
-use Prim.Native.Nat.{ℕ, zero, suc, _<_, _≤_, _+_, _-_, _*_, _%_}
+use Prim.Native.Nat.{ℕ, zero, suc, _<_, _≤_, _+_, _-_, _%_}
 use native.Mathlib.Omega.{arith}
-use lib.Dec.{eqb, ltb}
+use lib.Dec.{eqb}
 use lib.ListN.{length, getD, set, take, length-set, length-take, length-map}
-use borrow.Author.Needs.{needs}
 use Rattle.std.specs.Results.{isErr}
 use Rattle.std.specs.declared.result.Result.{Result}
 use Rattle.std.specs.declared.result.Result.the-variants.{Ok, Err}
@@ -19,7 +18,7 @@ use Rattle.claim.specs.Luhn.{doubled, weight, total, checkDigit}
 use Rattle.claim.specs.Code.{digitsIn, front, reading}
 use Rattle.claim.specs.Laws.{Guarded}
 use Rattle.claim.proofs.Numbers.{digit-byte}
-use Rattle.claim.proofs.Reading.{Accepted, WellFormed, on-accepted, ends, lastOf}
+use Rattle.claim.proofs.Reading.{Accepted, on-accepted, ends, lastOf}
 
 -- no two digits add the same at one place, and none adds more than nine
 weight-same : (t : Bool) (a b : ℕ) → a < 10 → b < 10 → cond t (doubled a) a ≡ cond t (doubled b) b → a ≡ b

@@ -2,7 +2,7 @@
 use mathlib.Core.Path.{_≡_, refl, ap, _∙_, sym}
 use mathlib.Core.Bool.{Bool, true, false}
 use mathlib.Core.List.{List, [], _∷_, _++_}
-use Prim.Native.Nat.{ℕ, _<_, _≤_, _+_, _-_, _^_}
+use Prim.Native.Nat.{ℕ, _<_, _≤_, _+_, _-_}
 use native.Mathlib.Omega.{arith}
 use native.Mathlib.Nat.{sub-zero}
 use lib.ListN.{length, getD, take, drop, set, length-append}
@@ -17,9 +17,9 @@ use Rattle.std.proofs.shelf.Decimals.{length-decimal-le, decimal-some, first-de
 use Rattle.claim.specs.declared.refusal.CodeRefusal.{CodeRefusal}
 use Rattle.claim.specs.declared.refusal.CodeRefusal.the-variants.{BadNumber}
 use Rattle.claim.specs.Luhn.{checkDigit}
-use Rattle.claim.specs.Code.{longest, largest, digitsIn, codeOf, coded, making, valueAfter, front, numberIn, reading}
+use Rattle.claim.specs.Code.{widest, longest, largest, digitsIn, codeOf, coded, making, valueAfter, front, numberIn, reading}
 use Rattle.claim.proofs.Numbers.{numerals}
-use Rattle.claim.proofs.Reading.{WellFormed, Checked, accepted, digits-append}
+use Rattle.claim.proofs.Reading.{WellFormed, Checked, accepted, never, digits-append}
 
 -- the byte of a number's check digit
 abbrev checkByte : ℕ → ℕ
@@ -31,13 +31,13 @@ length-code n = length-append (decimal n) (checkByte n ∷ [])
 check-is-digit : (n : ℕ) → allDigits (checkByte n ∷ []) ≡ true
 check-is-digit n = search needs
 
--- a text of 19 bytes that ends with the number, from its first digit on
-pub spelled : (n at : ℕ) (text : List ℕ) → at + length (decimal n) ≡ 19 → drop at text ≡ decimal n → take (19 - at) (drop at text) ≡ decimal n
-spelled n at text fits e = rw e (take-all (19 - at) (decimal n) (omega arith))
+-- a text that ends with the number, from the number's first digit on
+pub spelled : (n at : ℕ) (text : List ℕ) → at + length (decimal n) ≡ widest → drop at text ≡ decimal n → take (widest - at) (drop at text) ≡ decimal n
+spelled n at text fits e = rw e (take-all (widest - at) (decimal n) (omega arith))
 
 module _ (n : ℕ) (some : 0 < n) (small : n ≤ largest) where
-  pub digits-short : length (decimal n) ≤ 19
-  digits-short = length-decimal-le 19 n (omega arith) (omega arith) (omega arith)
+  pub digits-short : length (decimal n) ≤ widest
+  digits-short = length-decimal-le widest n (omega arith) (omega arith) (omega arith)
 
   pub digits-all : allDigits (decimal n) ≡ true
   digits-all = digits-decimal numerals n (omega arith)
@@ -92,14 +92,11 @@ on-made n k out h = by (coded n) refl
   where
     by : (t : Bool) → coded n ≡ t → coded n ≡ true
     by true e = e
-    by false e = let r : _≡_ {A = Result ℕ CodeRefusal} (Ok k) (Err BadNumber) = h ∙ rw e in let z : _≡_ {A = ℕ} 0 1 = cc in absurd (omega arith)
+    by false e = absurd (never k BadNumber (h ∙ rw e))
 
 pub on-refused : (n : ℕ) (why : CodeRefusal) (out : List ℕ) → longest ≤ length out → Err why ≡ making n out → (coded n ≡ false) × (why ≡ BadNumber)
 on-refused n why out room h = by (coded n) refl
   where
     by : (t : Bool) → coded n ≡ t → (coded n ≡ false) × (why ≡ BadNumber)
     by false e = (e, let r : _≡_ {A = Result ℕ CodeRefusal} (Err why) (Err BadNumber) = h ∙ rw e in cc)
-    by true e =
-        let r : _≡_ {A = Result ℕ CodeRefusal} (Err why) (Ok (length (codeOf n))) = h ∙ rw (e, le-ltb (length out) longest room) in
-        let z : _≡_ {A = ℕ} 0 1 = cc in
-        absurd (omega arith)
+    by true e = absurd (never (length (codeOf n)) why (sym (h ∙ rw (e, le-ltb (length out) longest room))))

@@ -2,7 +2,7 @@
 use mathlib.Core.Path.{_≡_, refl, ap, _∙_}
 use mathlib.Core.Logic.{⊎-elim}
 use mathlib.Core.Bool.{Bool, true, false}
-use mathlib.Core.List.{List, [], _∷_}
+use mathlib.Core.List.{List, [], _∷_, map}
 use Prim.Native.Nat.{ℕ, _<_, _≤_, _+_, _-_, _*_, min}
 use native.Mathlib.Omega.{arith}
 use lib.Dec.{ltb}
@@ -15,6 +15,10 @@ use Rattle.std.specs.declared.option.Option.the-variants.{Some, None}
 use Rattle.std.proofs.shelf.Numerals.{Numerals, numerals-by-fold, tells-allDigits, digit-at}
 use Rattle.std.proofs.shelf.Tests.{cases-lt, lt-ltb, ltb-true}
 use Rattle.claim.specs.Code.{digitsIn, valueAfter, valueUpTo}
+
+-- digits as ASCII bytes
+abbrev pub bytesOf : List ℕ → List ℕ
+bytesOf ds = map (λ d. 48 + d) ds
 
 -- `allDigits` and `valueAfter` are what std calls the digits of a number and their value
 pub numerals : Numerals (λ ds. allDigits ds ≡ true) (λ ds. valueAfter 0 (digitsIn ds))
@@ -37,6 +41,10 @@ cut-before limit m ds =
     (λ (h : limit ≤ m). omega (arith, valueAfter-ge (min m limit) ds, valueAfter-ge m ds))
     (cases-lt m limit)
 
+-- no number is none
+pub some-or-none : (n : ℕ) → _≡_ {A = Option ℕ} (Some n) None → ⊥
+some-or-none n h = let z : _≡_ {A = ℕ} 0 1 = cc in omega arith
+
 -- what a text with a value is
 pub record Valued (limit n : ℕ) (bs : List ℕ) : Type 0 where
   pub some : 0 < length bs
@@ -56,5 +64,5 @@ on-some limit n bs h = by (ltb 0 (length bs)) refl (allDigits bs) refl
           digits = f;
           number = let k : _≡_ {A = Option ℕ} (Some n) (Some (min limit (valueAfter 0 (digitsIn bs)))) = h ∙ rw (e, f) in cc;
         }
-    by true e false f = let k : _≡_ {A = Option ℕ} (Some n) None = h ∙ rw (e, f) in let z : _≡_ {A = ℕ} 0 1 = cc in absurd (omega arith)
-    by false e u f = let k : _≡_ {A = Option ℕ} (Some n) None = h ∙ rw e in let z : _≡_ {A = ℕ} 0 1 = cc in absurd (omega arith)
+    by true e false f = absurd (some-or-none n (h ∙ rw (e, f)))
+    by false e u f = absurd (some-or-none n (h ∙ rw e))

@@ -1,10 +1,10 @@
 -- When a text is read as a code, and as which; and that it is then the code of that number.
 use mathlib.Core.Path.{_≡_, refl, ap, _∙_, sym}
-use mathlib.Core.Bool.{Bool, true, false, cond, not, _&&_}
+use mathlib.Core.Bool.{Bool, true, false, not}
 use mathlib.Core.List.{List, [], _∷_, _++_}
-use Prim.Native.Nat.{ℕ, zero, suc, _<_, _≤_, _+_, _-_, _^_, min}
+use Prim.Native.Nat.{ℕ, zero, suc, _<_, _≤_, _+_, _-_, min}
 use native.Mathlib.Omega.{arith}
-use lib.Dec.{eqb, ltb, leb}
+use lib.Dec.{eqb, leb}
 use lib.ListN.{length, getD, take, length-take}
 use borrow.Author.Needs.{needs}
 use Rattle.std.specs.Text.{asciiDigit}
@@ -14,15 +14,15 @@ use Rattle.std.specs.declared.option.Option.the-variants.{Some, None}
 use Rattle.std.specs.declared.result.Result.{Result}
 use Rattle.std.specs.declared.result.Result.the-variants.{Ok, Err}
 use Rattle.std.proofs.shelf.Lists.{take-more, take-all, getD-take}
-use Rattle.std.proofs.shelf.Tests.{and-parts, and-from, leb-true, le-leb, eqb-true, eqb-false, eq-eqb, ne-eqb, not-true, not-from-false, true≢false}
+use Rattle.std.proofs.shelf.Tests.{and-parts, and-from, leb-true, le-leb, eqb-true, eqb-false, eq-eqb, ne-eqb, not-true, not-from-false}
 use Rattle.std.proofs.shelf.Ways.{tells}
 use Rattle.std.proofs.shelf.Decimals.{decimal-value, decimal-digit}
 use Rattle.claim.specs.declared.refusal.CodeRefusal.{CodeRefusal}
-use Rattle.claim.specs.declared.refusal.CodeRefusal.the-variants.{NoRoom, BadNumber, BadCheck}
+use Rattle.claim.specs.declared.refusal.CodeRefusal.the-variants.{BadNumber, BadCheck}
 use Rattle.claim.specs.Luhn.{checkDigit}
-use Rattle.claim.specs.Code.{largest, longest, digitsIn, codeOf, valueAfter, valueUpTo, front, numberIn, wellFormed, checked, reading}
+use Rattle.claim.specs.Code.{largest, longest, digitsIn, valueUpTo, front, numberIn, wellFormed, checked, reading}
 use Rattle.claim.specs.Laws.{CodeOf}
-use Rattle.claim.proofs.Numbers.{numerals, digit-byte, value-some, on-some}
+use Rattle.claim.proofs.Numbers.{numerals, digit-byte, some-or-none, value-some, on-some}
 
 -- what `wellFormed` tests
 pub record WellFormed (code : List ℕ) : Type 0 where
@@ -69,6 +69,10 @@ fails code bad = by (wellFormed code) refl
 pub accepted : (code : List ℕ) → WellFormed code → Checked code → reading code ≡ Ok (numberIn code)
 accepted code good right = rw (passes code good, eq-eqb (lastOf code) (48 + checkDigit (digitsIn (front code))) right)
 
+-- no answer is both a number and a refusal
+pub never : (n : ℕ) (why : CodeRefusal) → _≡_ {A = Result ℕ CodeRefusal} (Ok n) (Err why) → ⊥
+never n why h = let z : _≡_ {A = ℕ} 0 1 = cc in omega arith
+
 -- what an accepted text is
 pub record Accepted (code : List ℕ) (n : ℕ) : Type 0 where
   pub good : WellFormed code
@@ -85,8 +89,8 @@ on-accepted code n h = by (wellFormed code) refl (checked code) refl
           right = eqb-true (lastOf code) (48 + checkDigit (digitsIn (front code))) f;
           number = let k : _≡_ {A = Result ℕ CodeRefusal} (Ok n) (Ok (numberIn code)) = sym h ∙ rw (e, f) in cc;
         }
-    by true e false f = let k : _≡_ {A = Result ℕ CodeRefusal} (Ok n) (Err BadCheck) = sym h ∙ rw (e, f) in let z : _≡_ {A = ℕ} 0 1 = cc in absurd (omega arith)
-    by false e u f = let k : _≡_ {A = Result ℕ CodeRefusal} (Ok n) (Err BadNumber) = sym h ∙ rw e in let z : _≡_ {A = ℕ} 0 1 = cc in absurd (omega arith)
+    by true e false f = absurd (never n BadCheck (sym h ∙ rw (e, f)))
+    by false e u f = absurd (never n BadNumber (sym h ∙ rw e))
 
 -- a text is its front and its last byte
 pub ends : (code : List ℕ) → 0 < length code → code ≡ front code ++ (lastOf code ∷ [])
@@ -145,7 +149,7 @@ formed limit n code valued most first small below last =
 
 -- what stands against a text's being well formed
 pub no-value : (limit : ℕ) (code : List ℕ) → None ≡ valueUpTo limit (front code) → WellFormed code → ⊥
-no-value limit code none good = let e = none ∙ front-valued limit code good in let z : _≡_ {A = ℕ} 0 1 = cc in omega arith
+no-value limit code none good = some-or-none (min limit (numberIn code)) (sym (none ∙ front-valued limit code good))
 
 pub first-nought : (code : List ℕ) → getD (front code) 0 0 ≡ 48 → WellFormed code → ⊥
 first-nought code nought good = good .first (sym (getD-take (length code - 1) code 0 0 (omega (arith, good .two))) ∙ nought)

@@ -18,9 +18,13 @@ use Rattle.claim.specs.Luhn.{checkDigit}
 abbrev pub largest : ℕ
 largest = 2 ^ 60
 
+-- the most digits of a session number
+abbrev pub widest : ℕ
+widest = 19
+
 -- the most digits of a code, and so the room that making one asks for
 abbrev pub longest : ℕ
-longest = 20
+longest = widest + 1
 
 -- the digits that ASCII bytes stand for: 48 is the byte of 0
 abbrev pub digitsIn : List ℕ → List ℕ

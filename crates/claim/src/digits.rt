@@ -6,7 +6,10 @@ ghost use lib.ListN.{length, drop};
 ghost use Rattle.std.specs.shelf.Text.{allDigits};
 ghost use Rattle.std.specs.Written.{decimal};
 ghost use Rattle.claim.specs.Luhn.{doubled, weight, total, checkDigit};
-ghost use Rattle.claim.specs.Code.{digitsIn, valueAfter, valueUpTo};
+ghost use Rattle.claim.specs.Code.{largest, widest, digitsIn, valueAfter, valueUpTo};
+
+// The most digits of a session number.
+pub(crate) const WIDEST: usize = 19;
 
 // A digit doubled, with nine taken off a result above nine.
 fn double(d: u8) -> u8
@@ -29,7 +32,7 @@ fn weigh(digit: u8, i: usize, len: usize) -> u8
 
 // The sum of what the digits of a number add.
 fn luhn_sum(digits: &[u8]) -> u8
-    requires { ⌜ allDigits (now digits) ≡ true ⌝ ∗ ⌜ length (now digits) ≤ 19 ⌝ }
+    requires { ⌜ allDigits (now digits) ≡ true ⌝ ∗ ⌜ length (now digits) ≤ widest ⌝ }
     ensures { λ r. ⌜ r ≡ total (digitsIn (now (digits .entry))) ⌝ }
 {
     let mut sum = 0;
@@ -41,7 +44,7 @@ fn luhn_sum(digits: &[u8]) -> u8
 
 // The check digit of a number's digits, as a byte: it brings their sum to a multiple of ten.
 pub(crate) fn check_digit(digits: &[u8]) -> u8
-    requires { ⌜ allDigits (now digits) ≡ true ⌝ ∗ ⌜ length (now digits) ≤ 19 ⌝ }
+    requires { ⌜ allDigits (now digits) ≡ true ⌝ ∗ ⌜ length (now digits) ≤ widest ⌝ }
     ensures brings_the_sum_to_a_multiple_of_ten { λ r. ⌜ (total (digitsIn (now (digits .entry))) + (r - 48)) % 10 ≡ 0 ⌝ }
     ensures is_the_check_digit { λ r. ⌜ r ≡ 48 + checkDigit (digitsIn (now (digits .entry))) ⌝ }
 {
@@ -49,12 +52,12 @@ pub(crate) fn check_digit(digits: &[u8]) -> u8
 }
 
 // Writes the number's decimal digits at the end of `text`, and answers the place of the first.
-pub(crate) fn spell(number: u64, text: &mut [u8; 19]) -> usize
-    requires { ⌜ 0 < number ⌝ ∗ ⌜ number ≤ 2 ^ 60 ⌝ }
-    ensures fits { λ r. ⌜ r + length (decimal number) ≡ 19 ⌝ }
+pub(crate) fn spell(number: u64, text: &mut [u8; WIDEST]) -> usize
+    requires { ⌜ 0 < number ⌝ ∗ ⌜ number ≤ largest ⌝ }
+    ensures fits { λ r. ⌜ r + length (decimal number) ≡ widest ⌝ }
     ensures writes_decimal { λ r. ⌜ drop r (now (text .exit)) ≡ decimal number ⌝ }
 {
-    let mut at = 19;
+    let mut at = WIDEST;
     let mut n = number;
     while n > 0 {
         at -= 1;

@@ -14,6 +14,7 @@ ghost use Rattle.claim.specs.Laws.{CodeOf, Guarded, WorkedExamples};
 mod digits;
 mod refusal;
 
+use digits::WIDEST;
 use digits::check_digit;
 use digits::spell;
 pub use digits::value;
@@ -25,8 +26,8 @@ pub use refusal::CodeRefusalPartialEq;
 // The largest session number that has a code.
 pub const LARGEST: u64 = 1 << 60;
 
-// The most digits that a code has: 19 of the number and the check digit.
-pub const LONGEST: usize = 20;
+// The most digits of a code: those of a session number and the check digit.
+pub const LONGEST: usize = WIDEST + 1;
 
 // Writes the number's code at the front of `out`, and answers its length.
 fn write_code(number: u64, out: &mut [u8]) -> usize
@@ -36,7 +37,7 @@ fn write_code(number: u64, out: &mut [u8]) -> usize
     ensures writes { λ _. ⌜ now (out .exit) ≡ codeOf number ++ drop (length (codeOf number)) (now (out .entry)) ⌝ }
     ensures reads_back { λ r. ⌜ reading (take r (now (out .exit))) ≡ Ok number ⌝ }
 {
-    let mut text = [0u8; 19];
+    let mut text = [0u8; WIDEST];
     let at = spell(number, &mut text);
     let digits = &text[at..];
     let n = digits.len();

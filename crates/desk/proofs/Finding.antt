@@ -1,11 +1,10 @@
 -- A word of digits at the desk: it is text, it is a line's one word, and a session's number and code find each other.
-use mathlib.Core.Path.{_≡_, refl, ap, _∙_, sym}
-use mathlib.Core.Bool.{Bool, true, false, cond, _&&_}
-use mathlib.Core.List.{List, [], _∷_, _++_}
-use Prim.Native.Nat.{ℕ, _+_, _-_, _^_, _<_, _≤_, min}
+use mathlib.Core.Path.{_≡_, refl, ap, _∙_}
+use mathlib.Core.Bool.{true, false}
+use mathlib.Core.List.{List, [], _∷_}
+use Prim.Native.Nat.{ℕ, _-_, _^_, _<_, _≤_, min}
 use native.Mathlib.Omega.{arith}
-use lib.Chars.{codes}
-use lib.Dec.{leb, ltb, eqb}
+use lib.Dec.{eqb}
 use lib.ListN.{length}
 use Rattle.std.specs.Text.{asciiWhite, asciiGraphic, asciiDigit, Utf8}
 use Rattle.std.specs.shelf.Text.{allDigits}
@@ -15,14 +14,14 @@ use Rattle.std.specs.declared.result.Result.the-variants.{Ok}
 use Rattle.std.proofs.shelf.Tests.{and-parts, and-from, lt-ltb, le-leb, ne-eqb, cond-true}
 use Rattle.std.proofs.shelf.Ways.{tells}
 use Rattle.std.proofs.shelf.Decimals.{decimal-some, value-decimal}
-use Rattle.claim.specs.Code.{largest, coded, codeOf, digitsIn, valueAfter, valueUpTo, reading}
+use Rattle.claim.specs.Code.{largest, coded, codeOf, digitsIn, valueAfter}
 use Rattle.claim.specs.Laws.{CodeOf}
 use Rattle.claim.proofs.Numbers.{numerals, value-some}
 use Rattle.claim.proofs.Making.{digits-all, code-digits, code-some, code-reads}
 use Rattle.desk.specs.declared.request.Verb.the-variants.{MakeCode, ReadCode}
 use Rattle.desk.specs.Words.{skipWhite, untilWhite, fromWhite, firstWord, afterWord, visible}
 use Rattle.desk.specs.Requests.{make, soleWord, withNumber, numbered, joint}
-use Rattle.desk.specs.Replies.{madeReply, foundReply, makeReply, readReplyBy, replyBy, replyTo}
+use Rattle.desk.specs.Replies.{readReplyBy, replyBy}
 use Rattle.desk.specs.Laws.{FindsEachSession}
 use Rattle.desk.proofs.Splitting.{utf8-visible}
 

@@ -1,25 +1,22 @@
 -- Words of a line, and what a scan for white space knows of them.
 use mathlib.Core.Path.{_≡_, refl, ap, _∙_, sym}
-use mathlib.Core.Bool.{Bool, true, false, cond, _&&_}
+use mathlib.Core.Bool.{true, false}
 use mathlib.Core.List.{List, [], _∷_, _++_, append-assoc, append-nil}
 use Prim.Native.Nat.{ℕ, zero, suc, _+_, _≤_, _<_}
 use native.Mathlib.Omega.{arith}
-use native.Mathlib.Numerals.{add-one}
 use denote.Ref.{RefT}
 use lib.Dec.{leb}
 use lib.ListN.{length, getD, take, drop}
-use borrow.Author.Needs.{needs}
 use Rattle.std.specs.Text.{asciiWhite, asciiGraphic, Utf8, Ascii}
 use Rattle.std.specs.Options.{mapped}
 use Rattle.std.specs.Results.{Cases, okPart}
 use Rattle.std.specs.declared.option.Option.the-variants.{Some}
 use Rattle.std.specs.declared.result.Result.{Result}
 use Rattle.std.specs.declared.result.Result.the-variants.{Ok, Err}
-use Rattle.std.proofs.shelf.Lists.{take-more, drop-more, drop-all, take-all}
+use Rattle.std.proofs.shelf.Lists.{take-more, drop-more}
 use Rattle.std.proofs.shelf.Tests.{and-parts, leb-true}
 use Rattle.std.proofs.shelf.Ascii.{ascii-cons, ascii-nil}
 use Rattle.std.proofs.shelf.Text.{utf8-from-ascii}
-use Rattle.std.proofs.shelf.Ways.{tells}
 use Rattle.desk.specs.Words.{skipWhite, untilWhite, fromWhite, visible}
 
 -- what is left after white space, and nothing else, was cut from the front

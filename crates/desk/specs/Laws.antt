@@ -1,6 +1,6 @@
 -- What may be relied on at the desk.
 use mathlib.Core.Path.{_≡_}
-use mathlib.Core.List.{List, _++_}
+use mathlib.Core.List.{_++_}
 use Prim.Native.Nat.{ℕ, _<_, _≤_}
 use lib.Chars.{codes}
 use Rattle.std.specs.Written.{decimal}

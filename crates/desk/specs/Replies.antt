@@ -64,10 +64,14 @@ abbrev pub answerTo : Asked → List ℕ
 answerTo (make typed n) = makeReply typed n
 answerTo (read code) = readReply code
 
--- the reply to what a line asks, or to a line that is not understood, with its number
+-- the reply to a line that is not understood, with its number
+abbrev pub misreadReply : ℕ → Misread → List ℕ
+misreadReply number why = codes "line " ++ (decimal number ++ (codes " is not understood: " ++ reasonOf why))
+
+-- the reply by what a line asks
 abbrev pub replyBy : ℕ → Result Asked Misread → List ℕ
 replyBy number (Ok request) = answerTo request
-replyBy number (Err why) = codes "line " ++ (decimal number ++ (codes " is not understood: " ++ reasonOf why))
+replyBy number (Err why) = misreadReply number why
 
 -- the reply to a line
 abbrev pub replyTo : ℕ → List ℕ → List ℕ

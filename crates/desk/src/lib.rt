@@ -2,7 +2,7 @@
 ghost use mathlib.Core.Path.{_≡_};
 ghost use Rattle.claim.specs.Laws.{CodeOf};
 ghost use Rattle.desk.specs.Requests.{plainly};
-ghost use Rattle.desk.specs.Replies.{Says, replyTo, answerTo, madeReply, makeReply, readReply, refusedReply, reasonFor};
+ghost use Rattle.desk.specs.Replies.{Says, replyTo, answerTo, madeReply, foundReply, misreadReply, makeReply, readReply, refusedReply, reasonFor};
 ghost use Rattle.desk.specs.Laws.{FindsEachSession};
 
 mod request;
@@ -71,12 +71,19 @@ fn make_reply(heap: Global, typed: &str, number: u64) -> Result<String, AllocErr
     }
 }
 
+// The reply with the session of a code.
+fn found_reply(heap: Global, code: &str, session: u64) -> Result<String, AllocError>
+    ensures { λ r. ⌜ Says r (foundReply (now (code .entry)) session) ⌝ }
+{
+    format!(heap, "claim code {code} is session {session}")
+}
+
 // The reply to `read`.
 fn read_reply(heap: Global, code: &str) -> Result<String, AllocError>
     ensures { λ r. ⌜ Says r (readReply (now (code .entry))) ⌝ }
 {
     match claim::read(code.as_bytes()) {
-        Ok(session) => format!(heap, "claim code {code} is session {session}"),
+        Ok(session) => found_reply(heap, code, session),
         Err(why) => refused_reply(heap, "claim code", code, why, CODE_DEMAND),
     }
 }
@@ -91,16 +98,25 @@ fn answer(heap: Global, request: Request<'_>) -> Result<String, AllocError>
     }
 }
 
+// The reply to a line that is not understood.
+fn misread_reply(heap: Global, number: u64, why: Misread) -> Result<String, AllocError>
+    ensures { λ r. ⌜ Says r (misreadReply number why) ⌝ }
+{
+    let reason = why.reason();
+    format!(heap, "line {number} is not understood: {reason}")
+}
+
 // The reply to a line, the `number`th of the input.
 pub fn reply(heap: Global, number: u64, line: &[u8]) -> Result<String, AllocError>
     ensures says { λ r. ⌜ Says r (replyTo number (now (line .entry))) ⌝ }
-    ensures finds_each_session { λ _. ⌜ FindsEachSession ⌝ }
 {
     match understand(line) {
         Ok(request) => answer(heap, request),
-        Err(why) => {
-            let reason = why.reason();
-            format!(heap, "line {number} is not understood: {reason}")
-        }
+        Err(why) => misread_reply(heap, number, why),
     }
 }
+
+// What `reply` says finds the code of every session, and the session of every such code.
+pub fn every_session_is_found()
+    ensures finds_each_session { λ _. ⌜ FindsEachSession ⌝ }
+{}

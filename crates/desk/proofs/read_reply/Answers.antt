@@ -1,4 +1,4 @@
-use mathlib.Core.Path.{_≡_, _∙_, ap}
+use mathlib.Core.Path.{_∙_, ap}
 use lib.Chars.{codes}
 use Rattle.claim.specs.Code.{reading}
 use Rattle.desk.specs.Replies.{refusedReply, readReplyBy}
@@ -8,7 +8,7 @@ use Rattle.desk.proofs.read_reply.Needs as need
 pub returns-in-Ok : need.returns-in-Ok
 returns-in-Ok c =
     let answer = c .in-Ok .ensures tt .answers-the-number ∙ ap reading (c .as-bytes .ensures .value) in
-    says-same (c .format .result) (ap (readReplyBy (c .args .code .now)) answer) (c .format .ensures .made)
+    says-same (c .found-reply .result) (ap (readReplyBy (c .args .code .now)) answer) (c .found-reply .ensures)
 
 pub returns-in-Err : need.returns-in-Err
 returns-in-Err c =

@@ -1,6 +1,5 @@
-use mathlib.Core.Path.{_≡_, refl, ap, _∙_, sym}
-use mathlib.Core.List.{_∷_}
-use Prim.Native.Nat.{_<_, _+_, _-_, _*_, _%_}
+use mathlib.Core.Path.{_≡_, _∙_, sym}
+use Prim.Native.Nat.{_+_, _-_}
 use native.Mathlib.Omega.{arith}
 use lib.ListN.{length, drop, getD, length-drop, length-map}
 use Rattle.std.proofs.shelf.Lists.{at-drop-more, at-drop-all}

@@ -1,9 +1,9 @@
-use mathlib.Core.Path.{_≡_, refl, ap, _∙_, sym}
+use mathlib.Core.Path.{_≡_, ap, _∙_, sym}
 use mathlib.Core.List.{[], _++_, append-nil}
 use native.Mathlib.Omega.{arith}
 use lib.ListN.{length, take, drop}
 use Rattle.std.proofs.shelf.Lists.{drop-all, take-all}
-use Rattle.desk.specs.Words.{skipWhite, untilWhite, fromWhite}
+use Rattle.desk.specs.Words.{untilWhite, fromWhite}
 use Rattle.desk.proofs.Splitting.{trimmed, goes-on, stops}
 use Rattle.desk.proofs.words.split_word.Needs as need
 
