@@ -9,12 +9,9 @@ use lib.ListN.{length, getD, take, drop, set, length-append}
 use borrow.Author.Needs.{needs}
 use Rattle.std.specs.Written.{decimal}
 use Rattle.std.specs.shelf.Text.{allDigits}
-use Rattle.std.specs.declared.result.Result.{Result}
-use Rattle.std.specs.declared.result.Result.the-variants.{Ok, Err}
+use Rattle.std.specs.declared.result.Result.the-variants.{Ok}
 use Rattle.std.proofs.shelf.Lists.{set-at, drop-more, append-assoc, take-at, take-all, getD-at, getD-append-left}
-use Rattle.std.proofs.shelf.Tests.{le-ltb}
 use Rattle.std.proofs.shelf.Decimals.{length-decimal-le, decimal-some, first-decimal, digits-decimal, value-decimal}
-use Rattle.claim.specs.declared.refusal.CodeRefusal.{CodeRefusal}
 use Rattle.claim.specs.declared.refusal.CodeRefusal.the-variants.{BadNumber}
 use Rattle.claim.specs.Luhn.{checkDigit}
 use Rattle.claim.specs.Code.{widest, longest, largest, digitsIn, codeOf, coded, making, valueAfter, front, numberIn, reading}
@@ -86,17 +83,10 @@ module _ (n : ℕ) (some : 0 < n) (small : n ≤ largest) where
     pub reads-back : reading (take (length (decimal n) + 1) (codeOf n ++ drop (length (codeOf n)) out)) ≡ Ok n
     reads-back = ap reading (take-at (codeOf n) _ (length (decimal n) + 1) (length-code n)) ∙ code-reads
 
--- which numbers are refused where there is room
+-- only a number that has a code is made
 pub on-made : (n k : ℕ) (out : List ℕ) → Ok k ≡ making n out → coded n ≡ true
 on-made n k out h = by (coded n) refl
   where
     by : (t : Bool) → coded n ≡ t → coded n ≡ true
     by true e = e
     by false e = absurd (never k BadNumber (h ∙ rw e))
-
-pub on-refused : (n : ℕ) (why : CodeRefusal) (out : List ℕ) → longest ≤ length out → Err why ≡ making n out → (coded n ≡ false) × (why ≡ BadNumber)
-on-refused n why out room h = by (coded n) refl
-  where
-    by : (t : Bool) → coded n ≡ t → (coded n ≡ false) × (why ≡ BadNumber)
-    by false e = (e, let r : _≡_ {A = Result ℕ CodeRefusal} (Err why) (Err BadNumber) = h ∙ rw e in cc)
-    by true e = absurd (never (length (codeOf n)) why (sym (h ∙ rw (e, le-ltb (length out) longest room))))

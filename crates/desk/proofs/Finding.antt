@@ -15,13 +15,12 @@ use Rattle.std.proofs.shelf.Tests.{and-parts, and-from, lt-ltb, le-leb, ne-eqb,
 use Rattle.std.proofs.shelf.Ways.{tells}
 use Rattle.std.proofs.shelf.Decimals.{decimal-some, value-decimal}
 use Rattle.claim.specs.Code.{largest, coded, codeOf, digitsIn, valueAfter}
-use Rattle.claim.specs.Laws.{CodeOf}
 use Rattle.claim.proofs.Numbers.{numerals, value-some}
 use Rattle.claim.proofs.Making.{digits-all, code-digits, code-some, code-reads}
 use Rattle.desk.specs.declared.request.Verb.the-variants.{MakeCode, ReadCode}
 use Rattle.desk.specs.Words.{skipWhite, untilWhite, fromWhite, firstWord, afterWord, visible}
 use Rattle.desk.specs.Requests.{make, soleWord, withNumber, numbered, joint}
-use Rattle.desk.specs.Replies.{readReplyBy, replyBy}
+use Rattle.desk.specs.Replies.{readOutcomeBy, replyBy, shownBy, inWords}
 use Rattle.desk.specs.Laws.{FindsEachSession}
 use Rattle.desk.proofs.Splitting.{utf8-visible}
 
@@ -34,9 +33,9 @@ digits-visible (b ∷ bs) h =
     let p = and-parts (asciiDigit b) (allDigits bs) h in
     and-from (asciiGraphic b) (visible bs) (digit-visible b (p .0)) (digits-visible bs (p .1))
 
--- the code of a number is text
-pub code-is-text : (n : ℕ) (text : List ℕ) → CodeOf n text → Utf8 text
-code-is-text n text h = utf8-visible text (digits-visible text (ap allDigits (h .same) ∙ code-digits n (h .some) (h .small)))
+-- digits are text
+pub digits-are-text : (bs : List ℕ) → allDigits bs ≡ true → Utf8 bs
+digits-are-text bs h = utf8-visible bs (digits-visible bs h)
 
 -- a visible word has no white space in it
 visible-dark : (b : ℕ) → asciiGraphic b ≡ true → asciiWhite b ≡ false
@@ -73,6 +72,6 @@ finds-each-session line n some small =
     let number = sole (decimal n) (digits-visible (decimal n) (digits-all n some small)) (decimal-some n (omega arith)) in
     let code = sole (codeOf n) (digits-visible (codeOf n) (code-digits n some small)) (code-some n some small) in
     let has-code : coded n ≡ true = and-from _ _ (lt-ltb 0 n some) (le-leb n largest small) in (
-      ap (λ w. replyBy line (joint (Ok MakeCode) w)) number ∙ ap (replyBy line) (typed-number n some small) ∙ cond-true (coded n) _ _ has-code,
-      ap (λ w. replyBy line (joint (Ok ReadCode) w)) code ∙ ap (readReplyBy (codeOf n)) (code-reads n some small),
+      ap (λ w. inWords (replyBy line (joint (Ok MakeCode) w))) number ∙ ap (λ r. inWords (replyBy line r)) (typed-number n some small) ∙ ap (shownBy (decimal n)) (cond-true (coded n) _ _ has-code),
+      ap (λ w. inWords (replyBy line (joint (Ok ReadCode) w))) code ∙ ap (λ r. shownBy (codeOf n) (readOutcomeBy r)) (code-reads n some small),
     )

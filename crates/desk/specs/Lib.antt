@@ -1,4 +1,5 @@
 pub mod Words
+pub mod Codes
 pub mod Requests
 pub mod Replies
 pub mod Laws

@@ -1,6 +1,6 @@
 use mathlib.Core.Path.{ap, sym}
 use Rattle.desk.specs.Replies.{reasonFor}
-use Rattle.desk.proofs.reason_for.Needs as need
+use Rattle.desk.proofs.reply.reason_for.Needs as need
 
 pub returns-in-NoRoom : need.returns-in-NoRoom
 returns-in-NoRoom c = ap (λ why. reasonFor why (c .args .demand .now)) (sym (c .in-NoRoom .is))
