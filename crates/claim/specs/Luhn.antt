@@ -1,4 +1,4 @@
--- The check digit of ISO/IEC 7812-1, the Luhn formula, on a number's decimal digits, first digit first.
+-- The check digit of ISO/IEC 7812-1 (the Luhn formula, modulus 10, double-add-double), on a number's decimal digits, first digit first.
 use mathlib.Core.Bool.{cond}
 use mathlib.Core.List.{List, [], _∷_}
 use Prim.Native.Nat.{ℕ, _+_, _-_, _*_, _%_}

@@ -14,7 +14,8 @@ pub(crate) const WIDEST: usize = 19;
 // A digit doubled, with nine taken off a result above nine.
 fn double(d: u8) -> u8
     requires { ⌜ d < 10 ⌝ }
-    ensures { λ r. ⌜ r ≡ doubled d ⌝ ∗ ⌜ r < 10 ⌝ }
+    ensures doubles { λ r. ⌜ r ≡ doubled d ⌝ }
+    ensures is_a_digit { λ r. ⌜ r < 10 ⌝ }
 {
     let twice = 2 * d;
     if twice > 9 { twice - 9 } else { twice }
@@ -23,7 +24,8 @@ fn double(d: u8) -> u8
 // What the digit at place `i` of `len` adds to the sum: from the right, every second digit is doubled, the last one first.
 fn weigh(digit: u8, i: usize, len: usize) -> u8
     requires { ⌜ 48 ≤ digit ⌝ ∗ ⌜ digit ≤ 57 ⌝ ∗ ⌜ i < len ⌝ }
-    ensures { λ r. ⌜ r ≡ weight (len - 1 - i) (digit - 48) ⌝ ∗ ⌜ r < 10 ⌝ }
+    ensures weighs { λ r. ⌜ r ≡ weight (len - 1 - i) (digit - 48) ⌝ }
+    ensures is_a_digit { λ r. ⌜ r < 10 ⌝ }
 {
     let d = digit - b'0';
     let to_the_right = len - 1 - i;
@@ -33,7 +35,7 @@ fn weigh(digit: u8, i: usize, len: usize) -> u8
 // The sum of what the digits of a number add.
 fn luhn_sum(digits: &[u8]) -> u8
     requires { ⌜ allDigits (now digits) ≡ true ⌝ ∗ ⌜ length (now digits) ≤ widest ⌝ }
-    ensures { λ r. ⌜ r ≡ total (digitsIn (now (digits .entry))) ⌝ }
+    ensures sums { λ r. ⌜ r ≡ total (digitsIn (now (digits .entry))) ⌝ }
 {
     let mut sum = 0;
     for (i, digit) in digits.iter().enumerate() {
@@ -69,7 +71,7 @@ pub(crate) fn spell(number: u64, text: &mut [u8; WIDEST]) -> usize
 
 // Whether each byte is a decimal digit.
 fn all_digits(text: &[u8]) -> bool
-    ensures { λ r. ⌜ r ≡ allDigits (now (text .entry)) ⌝ }
+    ensures tells { λ r. ⌜ r ≡ allDigits (now (text .entry)) ⌝ }
 {
     for b in text {
         if !b.is_ascii_digit() {
@@ -82,7 +84,7 @@ fn all_digits(text: &[u8]) -> bool
 // The number that digits write, or the largest u64 where that is less.
 fn capped_value(digits: &[u8]) -> u64
     requires { ⌜ allDigits (now digits) ≡ true ⌝ }
-    ensures { λ r. ⌜ r ≡ min (2 ^ 64 - 1) (valueAfter 0 (digitsIn (now (digits .entry)))) ⌝ }
+    ensures reads { λ r. ⌜ r ≡ min (2 ^ 64 - 1) (valueAfter 0 (digitsIn (now (digits .entry)))) ⌝ }
 {
     let mut n: u64 = 0;
     for digit in digits {

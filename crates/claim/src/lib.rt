@@ -66,7 +66,7 @@ pub fn make(number: u64, out: &mut [u8]) -> Result<usize, CodeRefusal>
 
 // The number before the check digit; none unless the text is 2 to 20 digits, the first not 0, and the number in range.
 fn number_before(code: &[u8]) -> Option<u64>
-    ensures { λ r. ⌜ r ≡ cond (wellFormed (now (code .entry))) (Some (numberIn (now (code .entry)))) None ⌝ }
+    ensures finds { λ r. ⌜ r ≡ cond (wellFormed (now (code .entry))) (Some (numberIn (now (code .entry)))) None ⌝ }
 {
     if code.len() > LONGEST {
         return None;

@@ -1,10 +1,11 @@
 // The claim-code desk on standard input: `make NUMBER` or `read CODE` on each line, and a line of reply for each.
 use desk::ReplyDisplay;
-use std::io;
+use std::error::AnyError;
 use std::io::BufRead;
 use std::io::BufReader;
 
-fn main(rt: LibcRuntime) -> io::Result<()> {
+// Answers each line of the input.
+fn answer_lines(rt: &LibcRuntime) -> Result<(), AnyError> {
     let mut input = BufReader::new(rt.stdin());
     let mut line = Vec::new(rt.alloc());
     for number in 1..u64::MAX {
@@ -16,4 +17,8 @@ fn main(rt: LibcRuntime) -> io::Result<()> {
         println!(rt, "{reply}")?;
     }
     Ok(())
+}
+
+fn main(rt: LibcRuntime) -> Result<(), AnyError> {
+    rt.report(answer_lines(&rt))
 }

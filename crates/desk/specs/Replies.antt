@@ -25,6 +25,7 @@ pub data Said : Type 0 where
   notFound : (why : CodeRefusal) → Said
   notUnderstood : (line : ℕ) (why : Misread) → Said
 
+-- the plain value of an outcome
 abbrev pub said : Outcome → Said
 said (Made n c) = made n (digitsOf c)
 said (Found n) = found n
@@ -37,18 +38,20 @@ pub record Replied : Type 0 where
   pub typed : List ℕ
   pub outcome : Said
 
+-- the plain value of a reply
 abbrev pub replied : Reply → Replied
 replied r = record { typed = r .typed .now; outcome = said (r .outcome) }
 
--- what comes of `make`
+-- what comes of `make`: the session's code, or refusal 41
 abbrev pub makeOutcome : ℕ → Said
 makeOutcome n = cond (coded n) (made n (codeOf n)) (notMade BadNumber)
 
--- what comes of `read`, by what reading the code answers
+-- what comes of `read`, by the answer of reading
 abbrev pub readOutcomeBy : Result ℕ CodeRefusal → Said
 readOutcomeBy (Ok n) = found n
 readOutcomeBy (Err why) = notFound why
 
+-- what comes of `read`: the session, or the refusal of reading
 abbrev pub readOutcome : List ℕ → Said
 readOutcome code = readOutcomeBy (reading code)
 
@@ -66,10 +69,11 @@ replyBy number (Err why) = record { typed = []; outcome = notUnderstood number w
 abbrev pub replyTo : ℕ → List ℕ → Replied
 replyTo number line = replyBy number (asked line)
 
--- what a session number has to be, and what a claim code has to be
+-- what a session number has to be, in words
 abbrev pub numberDemand : List ℕ
 numberDemand = codes "session numbers go from 1 to " ++ decimal largest
 
+-- what a claim code has to be, in words
 abbrev pub codeDemand : List ℕ
 codeDemand = codes "a claim code is 2 to 20 digits, the first not 0, of a session number up to " ++ decimal largest
 
@@ -83,7 +87,7 @@ reasonFor BadCheck demand = codes "its check digit is wrong"
 abbrev pub refused : CodeRefusal → List ℕ → List ℕ
 refused why demand = codes " is refused (" ++ (decimal (numberOf why) ++ (codes "): " ++ reasonFor why demand))
 
--- the line that shows what came of a line
+-- the words for what was typed and what came of it
 abbrev pub shownBy : List ℕ → Said → List ℕ
 shownBy typed (made n code) = codes "session " ++ (decimal n ++ (codes " has claim code " ++ code))
 shownBy typed (found n) = codes "claim code " ++ (typed ++ (codes " is session " ++ decimal n))
@@ -91,5 +95,6 @@ shownBy typed (notMade why) = codes "session " ++ (typed ++ refused why numberDe
 shownBy typed (notFound why) = codes "claim code " ++ (typed ++ refused why codeDemand)
 shownBy typed (notUnderstood line why) = codes "line " ++ (decimal line ++ (codes " is not understood: " ++ reasonOf why))
 
+-- the line that shows a reply
 abbrev pub inWords : Replied → List ℕ
 inWords r = shownBy (r .typed) (r .outcome)

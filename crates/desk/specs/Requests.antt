@@ -47,11 +47,12 @@ soleWord text =
     (cond (not (eqb (length (firstWord (afterWord text))) 0)) (Err TooMuchFollows)
     (cond (not (visible (firstWord text))) (Err NotVisible) (Ok (firstWord text))))
 
--- the request to make the code of the number that is typed; one beyond u64 counts as the largest u64
+-- the request to make a code, by the value of what is typed
 abbrev pub withNumber : List ℕ → Option ℕ → Result Asked Misread
 withNumber typed (Some n) = Ok (make typed n)
 withNumber typed None = Err NotANumber
 
+-- the request to make the code of the number that is typed; one beyond u64 counts as the largest u64, which has no code either
 abbrev pub numbered : List ℕ → Result Asked Misread
 numbered typed = withNumber typed (valueUpTo (2 ^ 64 - 1) typed)
 
@@ -67,7 +68,7 @@ abbrev pub request : Verb → List ℕ → Result Asked Misread
 request MakeCode word = numbered word
 request ReadCode word = Ok (read word)
 
--- the first of two refusals, or what both parts ask
+-- what the first word and what follows it ask; the first word is looked at first
 abbrev pub joint : Result Verb Misread → Result (List ℕ) Misread → Result Asked Misread
 joint (Err e) word = Err e
 joint (Ok verb) (Err e) = Err e

@@ -22,7 +22,7 @@ pub use request::understand;
 
 // What comes of `make`.
 fn make_outcome(number: u64) -> Outcome
-    ensures { λ r. ⌜ said r ≡ makeOutcome number ⌝ }
+    ensures comes_of_make { λ r. ⌜ said r ≡ makeOutcome number ⌝ }
 {
     match CodeText::of(number) {
         Ok(code) => Outcome::Made {
@@ -35,7 +35,7 @@ fn make_outcome(number: u64) -> Outcome
 
 // What comes of `read`.
 fn read_outcome(code: &str) -> Outcome
-    ensures { λ r. ⌜ said r ≡ readOutcome (now (code .entry)) ⌝ }
+    ensures comes_of_read { λ r. ⌜ said r ≡ readOutcome (now (code .entry)) ⌝ }
 {
     match claim::read(code.as_bytes()) {
         Ok(session) => Outcome::Found { session },
@@ -45,7 +45,7 @@ fn read_outcome(code: &str) -> Outcome
 
 // The reply to a request.
 fn answer(request: Request<'_>) -> Reply<'_>
-    ensures { λ r. ⌜ replied r ≡ answerTo (plainly (request .entry)) ⌝ }
+    ensures answers { λ r. ⌜ replied r ≡ answerTo (plainly (request .entry)) ⌝ }
 {
     match request {
         Request::Make { typed, number } => Reply {

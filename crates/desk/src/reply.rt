@@ -37,7 +37,7 @@ pub struct Reply<'a> {
 
 // Why a code is refused, in words; `demand` says what a number or a code has to be.
 fn reason_for<'a>(why: CodeRefusal, demand: &'a str) -> &'a str
-    ensures { λ r. ⌜ now r ≡ reasonFor why (now (demand .entry)) ⌝ }
+    ensures in_words { λ r. ⌜ now r ≡ reasonFor why (now (demand .entry)) ⌝ }
 {
     match why {
         CodeRefusal::NoRoom => "there is no room for it",

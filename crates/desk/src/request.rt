@@ -50,7 +50,7 @@ impl Misread {
 
 // The one word of `text`.
 fn sole_word(text: &[u8]) -> Result<&str, Misread>
-    ensures { λ r. ⌜ heldText r ≡ soleWord (now (text .entry)) ⌝ }
+    ensures takes_the_one_word { λ r. ⌜ heldText r ≡ soleWord (now (text .entry)) ⌝ }
 {
     let (word, rest) = split_word(text);
     let (more, _) = split_word(rest);
@@ -65,7 +65,7 @@ fn sole_word(text: &[u8]) -> Result<&str, Misread>
 
 // The request for the claim code of a number.
 fn make_request(typed: &str) -> Result<Request<'_>, Misread>
-    ensures { λ r. ⌜ askedBy r ≡ numbered (now (typed .entry)) ⌝ }
+    ensures asks_for_the_number { λ r. ⌜ askedBy r ≡ numbered (now (typed .entry)) ⌝ }
 {
     match claim::value(typed.as_bytes()) {
         Some(number) => Ok(Request::Make { typed, number }),
@@ -75,7 +75,7 @@ fn make_request(typed: &str) -> Result<Request<'_>, Misread>
 
 // What the first word of a line asks for.
 fn verb_of(word: &[u8]) -> Result<Verb, Misread>
-    ensures { λ r. ⌜ r ≡ verbOf (now (word .entry)) ⌝ }
+    ensures takes_the_verb { λ r. ⌜ r ≡ verbOf (now (word .entry)) ⌝ }
 {
     if word.is_empty() {
         Err(Misread::Blank)

@@ -24,14 +24,14 @@ pub(crate) fn split_word(text: &[u8]) -> (&[u8], &[u8])
 
 // Whether a word is just this text.
 pub(crate) fn reads_as(word: &[u8], text: &str) -> bool
-    ensures { λ r. ⌜ r ≡ sameBytes (now (word .entry)) (now (text .entry)) ⌝ }
+    ensures compares { λ r. ⌜ r ≡ sameBytes (now (word .entry)) (now (text .entry)) ⌝ }
 {
     word == text.as_bytes()
 }
 
 // A word as text that can be shown as it is; none where it has a byte that is not a visible ASCII character.
 pub(crate) fn visible_text(word: &[u8]) -> Option<&str>
-    ensures { λ r. ⌜ mapped held r ≡ cond (visible (now (word .entry))) (Some (now (word .entry))) None ⌝ }
+    ensures shows_as_it_is { λ r. ⌜ mapped held r ≡ cond (visible (now (word .entry))) (Some (now (word .entry))) None ⌝ }
 {
     for b in word {
         if !b.is_ascii_graphic() {

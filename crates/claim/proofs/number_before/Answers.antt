@@ -13,7 +13,7 @@ pub returns-in-Break-number : need.returns-in-Break-number
 returns-in-Break-number c =
     let code = c .args .code .now in
     let bad = fails code (no-value (2 ^ 64 - 1) code (sym (c .in-Break-number .was tt) ∙ c .value .ensures .is-the-value)) in
-    c .from-residual .ensures ∙ sym (cond-false (wellFormed code) _ _ bad)
+    record { finds = c .from-residual .ensures ∙ sym (cond-false (wellFormed code) _ _ bad) }
 
 pub returns-then-digits-eq48 : need.returns-then-digits-eq48
 returns-then-digits-eq48 c =
@@ -24,7 +24,7 @@ returns-then-digits-eq48 c =
       | then-digits-eq48·by·else-digits-eq48·then-number-gt-LARGEST w ↦ too-large (2 ^ 64 - 1) _ code (c .in-Continue-number .ensures tt .is-the-value) (w .if-number-gt-LARGEST .taken)
       | then-digits-eq48·by·else-digits-eq48·else-number-gt-LARGEST·then-not-is-ascii-digit w ↦ last-no-digit code (sym (w .if-not-is-ascii-digit .ensures tt .value))
     ] in
-    sym (cond-false (wellFormed code) _ _ (fails code bad))
+    record { finds = sym (cond-false (wellFormed code) _ _ (fails code bad)) }
 
 pub returns : need.returns
 returns c =
@@ -32,4 +32,4 @@ returns c =
     let valued = c .in-Continue-number .ensures tt .is-the-value in
     let good = formed (2 ^ 64 - 1) _ code valued (omega arith) (c .if-digits-eq48 .left) (omega arith) (omega arith) (sym (c .if-not-is-ascii-digit .ensures tt .value)) in
     let number : c .in-Continue-number .number ≡ numberIn code = omega (arith, on-some (2 ^ 64 - 1) (c .in-Continue-number .number) (front code) valued .number) in
-    ap (λ n. Some n) number ∙ sym (cond-true (wellFormed code) _ _ (passes code good))
+    record { finds = ap (λ n. Some n) number ∙ sym (cond-true (wellFormed code) _ _ (passes code good)) }

@@ -9,7 +9,7 @@ use std::str::from_utf8;
 impl CodeText {
     // The text of a number's claim code.
     pub(crate) fn of(number: u64) -> Result<CodeText, CodeRefusal>
-        ensures { λ r. ⌜ madeText r ≡ makingText number ⌝ }
+        ensures makes { λ r. ⌜ madeText r ≡ makingText number ⌝ }
     {
         let mut memory = [0u8; LONGEST];
         let len = claim::make(number, &mut memory)?;

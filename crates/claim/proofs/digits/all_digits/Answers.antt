@@ -14,4 +14,4 @@ loop-b-again c =
     let e = at-drop-more allDigits (c .args .text .now) (c .loop-b .b-index) 0 (omega arith) in search (needs, e)
 
 pub returns : need.returns
-returns c = sym (at-drop-all allDigits (c .args .text .now) (c .loop-b .b-index) (omega arith)) ∙ c .loop-b .inv
+returns c = record { tells = sym (at-drop-all allDigits (c .args .text .now) (c .loop-b .b-index) (omega arith)) ∙ c .loop-b .inv }

@@ -25,4 +25,4 @@ loop-digit-again c =
 pub returns : need.returns
 returns c =
     let read = at-drop-all (λ l. valueAfter (c .loop-digit .n) (digitsIn l)) (c .args .digits .now) (c .loop-digit .digit-index) (omega arith) in
-    omega (arith, c .loop-digit .inv .0, read)
+    record { reads = omega (arith, c .loop-digit .inv .0, read) }

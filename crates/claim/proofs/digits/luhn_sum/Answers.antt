@@ -21,8 +21,9 @@ loop-i-again c =
     at-drop-more (λ l. total (digitsIn l)) ds i 0 (c .loop-i-test .taken) in
     let right : length (digitsIn (drop (i + 1) ds)) ≡ length ds - 1 - i = simp (length-map, length-drop) (omega arith) in
     let added : c .weigh-sum .result ≡ weight (length (digitsIn (drop (i + 1) ds))) (getD ds i 0 - 48) =
-    c .weigh-sum .ensures .0 ∙ (λ k. weight (sym right k) (getD ds i 0 - 48)) in
+    c .weigh-sum .ensures .weighs ∙ (λ k. weight (sym right k) (getD ds i 0 - 48)) in
     (omega arith, omega (arith, more, added, c .loop-i .inv .1))
 
 pub returns : need.returns
-returns c = omega (arith, at-drop-all (λ l. total (digitsIn l)) (c .args .digits .now) (c .loop-i .i) (omega arith), c .loop-i .inv .1)
+returns c =
+    record { sums = omega (arith, at-drop-all (λ l. total (digitsIn l)) (c .args .digits .now) (c .loop-i .i) (omega arith), c .loop-i .inv .1) }

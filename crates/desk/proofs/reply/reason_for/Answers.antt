@@ -3,7 +3,7 @@ use Rattle.desk.specs.Replies.{reasonFor}
 use Rattle.desk.proofs.reply.reason_for.Needs as need
 
 pub returns-in-NoRoom : need.returns-in-NoRoom
-returns-in-NoRoom c = ap (λ why. reasonFor why (c .args .demand .now)) (sym (c .in-NoRoom .is))
+returns-in-NoRoom c = record { in-words = ap (λ why. reasonFor why (c .args .demand .now)) (sym (c .in-NoRoom .is)) }
 
 pub returns-in-BadCheck : need.returns-in-BadCheck
-returns-in-BadCheck c = ap (λ why. reasonFor why (c .args .demand .now)) (sym (c .in-BadCheck .is))
+returns-in-BadCheck c = record { in-words = ap (λ why. reasonFor why (c .args .demand .now)) (sym (c .in-BadCheck .is)) }

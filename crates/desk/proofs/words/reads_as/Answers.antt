@@ -8,5 +8,5 @@ pub returns : need.returns
 returns c =
     let word = c .args .word .now in
     let bytes = c .as-bytes .result .now in
-    same-from-decides (c .eq .result) (sameBytes word bytes) (matches-decides word bytes (c .eq .result) (c .eq .ensures)) (sameBytes-decides word bytes)
-    ∙ ap (sameBytes word) (c .as-bytes .ensures .value)
+    let same = same-from-decides (c .eq .result) (sameBytes word bytes) (matches-decides word bytes (c .eq .result) (c .eq .ensures)) (sameBytes-decides word bytes) in
+    record { compares = same ∙ ap (sameBytes word) (c .as-bytes .ensures .value) }

@@ -19,4 +19,5 @@ loop-b-again c =
 pub returns : need.returns
 returns c =
     let all : visible (c .args .word .now) ≡ true = sym (c .loop-b .inv) ∙ at-drop-all visible (c .args .word .now) (c .loop-b .b-index) (c .loop-b-test .left) in
-    ap (mapped now) (c .ok .ensures .value) ∙ text-of _ (c .args .word .now) (c .from-utf8 .result) (c .from-utf8 .ensures .cases) (utf8-visible (c .args .word .now) all) ∙ rw all
+    let text = text-of _ (c .args .word .now) (c .from-utf8 .result) (c .from-utf8 .ensures .cases) (utf8-visible (c .args .word .now) all) in
+    record { shows-as-it-is = ap (mapped now) (c .ok .ensures .value) ∙ text ∙ rw all }

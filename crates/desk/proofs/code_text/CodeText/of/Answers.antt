@@ -11,4 +11,4 @@ pub returns : need.returns
 returns c =
     let good = on-made (c .args .number) (c .in-Continue-len .len) (replicate 20 0) (c .in-Continue-len .ensures tt .answers-the-length) in
     let code = only-codes _ _ (on-accepted _ _ (c .in-Continue-len .ensures tt .reads-back)) in
-    ap (λ l. Ok l) (code .same) ∙ sym (cond-true (coded (c .args .number)) _ _ good)
+    record { makes = ap (λ l. Ok l) (code .same) ∙ sym (cond-true (coded (c .args .number)) _ _ good) }

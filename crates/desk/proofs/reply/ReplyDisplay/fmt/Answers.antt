@@ -10,7 +10,7 @@ use Rattle.desk.proofs.reply.ReplyDisplay.fmt.Needs as need
 pub returns-in-NotMade : need.returns-in-NotMade
 returns-in-NotMade g c plain ok =
     let typed = c .args .self .now .typed .now in
-    let words = refusal-words (c .in-NotMade .why) _ _ _ _ (c .number-number .ensures .is-its-number) (c .reason-for-reason .ensures) number-demand in
+    let words = refusal-words (c .in-NotMade .why) _ _ _ _ (c .number-number .ensures .is-its-number) (c .reason-for-reason .ensures .in-words) number-demand in
     subst (λ l. Put (g .W·Write .took) (c .args .f .now) l (c .write-in-NotMade .last .self))
     (ap (λ l. codes "session " ++ (typed ++ l)) words ∙ ap (λ o. shownBy typed (said o)) (sym (c .in-NotMade .is)))
     (c .write-in-NotMade .ensures .shows plain ok)
@@ -18,7 +18,7 @@ returns-in-NotMade g c plain ok =
 pub returns-in-NotFound : need.returns-in-NotFound
 returns-in-NotFound g c plain ok =
     let typed = c .args .self .now .typed .now in
-    let words = refusal-words (c .in-NotFound .why) _ _ _ _ (c .number-number-in-NotFound .ensures .is-its-number) (c .reason-for-reason-in-NotFound .ensures) code-demand in
+    let words = refusal-words (c .in-NotFound .why) _ _ _ _ (c .number-number-in-NotFound .ensures .is-its-number) (c .reason-for-reason-in-NotFound .ensures .in-words) code-demand in
     subst (λ l. Put (g .W·Write .took) (c .args .f .now) l (c .write-in-NotFound .last .self))
     (ap (λ l. codes "claim code " ++ (typed ++ l)) words ∙ ap (λ o. shownBy typed (said o)) (sym (c .in-NotFound .is)))
     (c .write-in-NotFound .ensures .shows plain ok)
