@@ -1,4 +1,5 @@
 // Claim codes: a session number in decimal, then its check digit, as ASCII digits.
+// A session is one customer's phone at a station, from linking to unlinking; sessions are numbered from 1 on.
 // A customer shows the code to collect an envelope; staff make codes and read them back.
 ghost use mathlib.Core.Path.{_≡_};
 ghost use mathlib.Core.Bool.{true, cond};
