@@ -1,0 +1,26 @@
+// Code over any roll and any line-up, whoever wrote it.
+ghost use mathlib.Core.Path.{_≡_};
+ghost use lib.ListN.{length};
+ghost use Rattle.lineup.specs.Rolls.{noKeys};
+ghost use Rattle.lineup.specs.Front.{frontEntry};
+use crate::roll::LineUp;
+use crate::roll::Roll;
+use crate::search::Entry;
+
+// Takes every place out.
+pub fn clear<R: Roll>(roll: &mut R)
+    ensures no_key_is_left { λ _. ⌜ keys (now (roll .exit)) ≡ noKeys (length (keys (now (roll .entry)))) ⌝ }
+{
+    for place in 0..roll.capacity() {
+        let _ = roll.take_out(place);
+    }
+}
+
+// The place in front with its key, or none.
+pub fn front_with_key<L: LineUp>(line: &L) -> Option<Entry>
+    ensures answers_the_front { λ r. ⌜ r ≡ frontEntry (L·Roll .keys (now (line .entry))) ⌝ }
+{
+    let place = line.front()?;
+    let key = line.key_of(place)?;
+    Some(Entry { place, key })
+}
