@@ -1,2 +1,5 @@
 pub mod Fronts
+mod Heaped
+mod Permutations
 mod Searches
+mod Sifts

@@ -2,13 +2,19 @@
 // A roll has a fixed number of places, numbered from 0; each place has one key or none.
 // A line-up is a roll that also tells which place is in front: the one with the least key.
 mod any;
+mod heap;
+mod permutation;
 mod refusal;
 mod roll;
 mod search;
+mod sift;
 mod table;
 
 pub use any::clear;
 pub use any::front_with_key;
+pub use heap::Heap;
+pub use heap::HeapLineUp;
+pub use heap::HeapRoll;
 pub use refusal::RollRefusal;
 pub use refusal::RollRefusalDebug;
 pub use refusal::RollRefusalEq;

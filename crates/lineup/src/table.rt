@@ -12,35 +12,35 @@ const PLACES: usize = 16;
 
 #[derive(Drop)]
 pub struct Table {
-    slots: [Option<u64>; PLACES],
-    ghost wide: { length slots ≡ tablePlaces },
+    keys: [Option<u64>; PLACES],
+    ghost wide: { length keys ≡ tablePlaces },
 }
 
 impl Table {
     // A table without a key.
     pub fn new() -> Self
-        ensures is_empty { λ r. ⌜ r .slots ≡ noKeys tablePlaces ⌝ }
+        ensures is_empty { λ r. ⌜ r .keys ≡ noKeys tablePlaces ⌝ }
     {
-        Table { slots: [None; PLACES] }
+        Table { keys: [None; PLACES] }
     }
 }
 
 pub impl Roll for Table as TableRoll {
-    ghost keys = { λ t. t .slots };
+    ghost keys = { λ t. t .keys };
 
     fn capacity(&self) -> usize {
         PLACES
     }
 
     fn key_of(&self, place: usize) -> Option<u64> {
-        if place < PLACES { self.slots[place] } else { None }
+        if place < PLACES { self.keys[place] } else { None }
     }
 
     fn put(&mut self, place: usize, key: u64) -> Result<(), RollRefusal> {
         if place >= PLACES {
             return Err(RollRefusal::NoPlace);
         }
-        self.slots[place] = Some(key);
+        self.keys[place] = Some(key);
         Ok(())
     }
 
@@ -48,8 +48,8 @@ pub impl Roll for Table as TableRoll {
         if place >= PLACES {
             return None;
         }
-        let key = self.slots[place];
-        self.slots[place] = None;
+        let key = self.keys[place];
+        self.keys[place] = None;
         key
     }
 }

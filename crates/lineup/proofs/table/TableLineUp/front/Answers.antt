@@ -7,4 +7,4 @@ use Rattle.lineup.proofs.table.TableLineUp.front.Needs as need
 
 pub returns : need.returns
 returns c =
-    record { answers-the-front = c .front-below .ensures .answers-their-front ∙ ap frontOf (take-all tablePlaces (c .args .self .now .slots) (omega arith)) }
+    record { answers-the-front = c .front-below .ensures .answers-their-front ∙ ap frontOf (take-all tablePlaces (c .args .self .now .keys) (omega arith)) }

@@ -5,4 +5,4 @@ use Rattle.lineup.proofs.table.TableRoll.key_of.Needs as need
 
 pub returns-else-place-lt-PLACES : need.returns-else-place-lt-PLACES
 returns-else-place-lt-PLACES c =
-    record { answers-the-key = sym (getD-past (c .args .self .now .slots) (c .args .place) _ (omega arith)) }
+    record { answers-the-key = sym (getD-past (c .args .self .now .keys) (c .args .place) _ (omega arith)) }
