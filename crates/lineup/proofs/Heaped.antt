@@ -39,8 +39,8 @@ module _ (ks : List (Option ℕ)) (os ss : List ℕ) (n : ℕ) (wide : length ks
   no-front : n ≡ 0 → IsFront ks None
   no-front e q =
       ⊎-elim (λ (l : q < heapPlaces). none-since (keyAt ks q) (members q l ∙ le-ltb (getD ss q 0) n (omega arith)))
-        (λ (g : heapPlaces ≤ q). getD-past ks q None (omega arith))
-        (cases-lt q heapPlaces)
+      (λ (g : heapPlaces ≤ q). getD-past ks q None (omega arith))
+      (cases-lt q heapPlaces)
 
   module _ (inside : Inside os) (back : Undone os ss) (forth : Undone ss os) (heap : IsHeap (rankAt ks os) n) where
     root-front : 0 < n → IsFront ks (Some (getD os 0 0))
@@ -49,16 +49,19 @@ module _ (ks : List (Option ℕ)) (os ss : List ℕ) (n : ℕ) (wide : length ks
         let lp : p < heapPlaces = inside 0 (omega arith) in
         let sp : getD ss p 0 ≡ 0 = back 0 (omega arith) in
         let k = some-since (keyAt ks p) (members p lp ∙ lt-ltb (getD ss p 0) n (omega arith)) in
-        let kp : rank ks p ≡ k .0 * mostPlaces + p = ap (λ o. valueOr o 0 * mostPlaces + p) (k .1) in
-        (k .0, k .1, λ q j a.
-          let w : q < length ks = within ks q j a in
-          let lq : q < heapPlaces = omega arith in
-          let at : getD ss q 0 < n = ltb-true (getD ss q 0) n (sym (members q lq) ∙ ap isSome a) in
-          let first : rankAt ks os 0 ≤ rankAt ks os (getD ss q 0) = root-first (rankAt ks os) n (getD ss q 0) heap at in
-          let kq : rankAt ks os (getD ss q 0) ≡ j * mostPlaces + q = ap (rank ks) (forth q lq) ∙ ap (λ o. valueOr o 0 * mostPlaces + q) a in
-          (omega arith, λ l. omega arith))
+        let kp : rank ks p ≡ k .0 * mostPlaces + p = ap (λ o. valueOr o 0 * mostPlaces + p) (k .1) in (
+          k .0,
+          k .1,
+          λ q j a.
+              let w : q < length ks = within ks q j a in
+              let lq : q < heapPlaces = omega arith in
+              let at : getD ss q 0 < n = ltb-true (getD ss q 0) n (sym (members q lq) ∙ ap isSome a) in
+              let first : rankAt ks os 0 ≤ rankAt ks os (getD ss q 0) = root-first (rankAt ks os) n (getD ss q 0) heap at in
+              let kq : rankAt ks os (getD ss q 0) ≡ j * mostPlaces + q = ap (rank ks) (forth q lq) ∙ ap (λ o. valueOr o 0 * mostPlaces + q) a in
+              (omega arith, λ l. omega arith),
+        )
 
     pub root-is-front : rootOf os n ≡ frontOf ks
     root-is-front =
         front-is ks (rootOf os n)
-          (cond-both (eqb n 0) _ _ (IsFront ks) (λ t. no-front (eqb-true n 0 t)) (λ t. root-front (let z = eqb-false n 0 t in omega arith)))
+        (cond-both (eqb n 0) _ _ (IsFront ks) (λ t. no-front (eqb-true n 0 t)) (λ t. root-front (let z = eqb-false n 0 t in omega arith)))

@@ -1,5 +1,6 @@
 pub mod Fronts
 mod Heaped
+mod Joins
+mod Pairing
 mod Permutations
-mod Searches
 mod Sifts

@@ -14,31 +14,31 @@ module _ (f g : ℕ → ℕ) (n i : ℕ) (pos : 0 < i) (inside : i < n) (s : Swa
   pub up-but : ButUp g n (parent i)
   up-but j p l ne =
       ⊎-elim
-        (λ (e : j ≡ i). rw e (let a = s .0 in let b = s .1 in omega arith))
-        (λ (ni : j ≡ i → ⊥).
-          let gj = s .2 j ni ne in
-          ⊎-elim
-            (λ (e : parent j ≡ i). let gp : g (parent j) ≡ f (parent i) = ap g e ∙ s .0 in let c = across j p l e pos in omega arith)
-            (λ (ne′ : parent j ≡ i → ⊥).
-              ⊎-elim
-                (λ (e : parent j ≡ parent i). let gp : g (parent j) ≡ f i = ap g e ∙ s .1 in let fp : f (parent j) ≡ f (parent i) = ap f e in let c = but j p l ni in omega arith)
-                (λ (ne″ : parent j ≡ parent i → ⊥). let gp = s .2 (parent j) ne′ ne″ in let c = but j p l ni in omega arith)
-                (cases-eq (parent j) (parent i)))
-            (cases-eq (parent j) i))
-        (cases-eq j i)
+      (λ (e : j ≡ i). rw e (let a = s .0 in let b = s .1 in omega arith))
+      (λ (ni : j ≡ i → ⊥).
+      let gj = s .2 j ni ne in
+      ⊎-elim
+      (λ (e : parent j ≡ i). let gp : g (parent j) ≡ f (parent i) = ap g e ∙ s .0 in let c = across j p l e pos in omega arith)
+      (λ (ne′ : parent j ≡ i → ⊥).
+      ⊎-elim
+      (λ (e : parent j ≡ parent i). let gp : g (parent j) ≡ f i = ap g e ∙ s .1 in let fp : f (parent j) ≡ f (parent i) = ap f e in let c = but j p l ni in omega arith)
+      (λ (ne″ : parent j ≡ parent i → ⊥). let gp = s .2 (parent j) ne′ ne″ in let c = but j p l ni in omega arith)
+      (cases-eq (parent j) (parent i)))
+      (cases-eq (parent j) i))
+      (cases-eq j i)
 
   pub up-across : Across g n (parent i)
   up-across j p l e z =
       let gp = s .2 (parent (parent i)) (omega arith) (omega arith) in
       let fp = but (parent i) z (omega arith) (omega arith) in
       ⊎-elim
-        (λ (ji : j ≡ i). let gj : g j ≡ f (parent i) = ap g ji ∙ s .0 in omega arith)
-        (λ (ni : j ≡ i → ⊥).
-          let gj = s .2 j ni (omega arith) in
-          let c = but j p l ni in
-          let fe : f (parent j) ≡ f (parent i) = ap f e in
-          omega arith)
-        (cases-eq j i)
+      (λ (ji : j ≡ i). let gj : g j ≡ f (parent i) = ap g ji ∙ s .0 in omega arith)
+      (λ (ni : j ≡ i → ⊥).
+      let gj = s .2 j ni (omega arith) in
+      let c = but j p l ni in
+      let fe : f (parent j) ≡ f (parent i) = ap f e in
+      omega arith)
+      (cases-eq j i)
 
 pub up-root : (f : ℕ → ℕ) (n i : ℕ) → i ≡ 0 → ButUp f n i → IsHeap f n
 up-root f n i z but j p l = but j p l (omega arith)
@@ -53,18 +53,18 @@ module _ (f g : ℕ → ℕ) (n i c : ℕ) (least : LeastChild f n i c) (s : Swa
   down-but j p l ne =
       let pc = least .2 in
       ⊎-elim
-        (λ (e : j ≡ c). let a : g (parent j) ≡ f c = ap (λ m. g (parent m)) e ∙ ap g pc ∙ s .0 in let b : g j ≡ f i = ap g e ∙ s .1 in omega arith)
-        (λ (nc : j ≡ c → ⊥).
-          ⊎-elim
-            (λ (e : parent j ≡ i). let a : g (parent j) ≡ f c = ap g e ∙ s .0 in let b = s .2 j (omega arith) nc in let k = least .3 j p l e in omega arith)
-            (λ (ni : parent j ≡ i → ⊥).
-              let a = s .2 (parent j) ni ne in
-              ⊎-elim
-                (λ (e : j ≡ i). let b : g j ≡ f c = ap g e ∙ s .0 in let d : f (parent j) ≡ f (parent i) = ap (λ m. f (parent m)) e in let k = across c (least .0) (least .1) pc (omega arith) in omega arith)
-                (λ (nj : j ≡ i → ⊥). let b = s .2 j nj nc in let k = but j p l ni in omega arith)
-                (cases-eq j i))
-            (cases-eq (parent j) i))
-        (cases-eq j c)
+      (λ (e : j ≡ c). let a : g (parent j) ≡ f c = ap (λ m. g (parent m)) e ∙ ap g pc ∙ s .0 in let b : g j ≡ f i = ap g e ∙ s .1 in omega arith)
+      (λ (nc : j ≡ c → ⊥).
+      ⊎-elim
+      (λ (e : parent j ≡ i). let a : g (parent j) ≡ f c = ap g e ∙ s .0 in let b = s .2 j (omega arith) nc in let k = least .3 j p l e in omega arith)
+      (λ (ni : parent j ≡ i → ⊥).
+      let a = s .2 (parent j) ni ne in
+      ⊎-elim
+      (λ (e : j ≡ i). let b : g j ≡ f c = ap g e ∙ s .0 in let d : f (parent j) ≡ f (parent i) = ap (λ m. f (parent m)) e in let k = across c (least .0) (least .1) pc (omega arith) in omega arith)
+      (λ (nj : j ≡ i → ⊥). let b = s .2 j nj nc in let k = but j p l ni in omega arith)
+      (cases-eq j i))
+      (cases-eq (parent j) i))
+      (cases-eq j c)
 
   pub down-across : Across g n c
   down-across j p l e z =
@@ -131,9 +131,9 @@ root-by : (f : ℕ → ℕ) (n : ℕ) → IsHeap f n → (fuel i : ℕ) → i �
 root-by f n heap zero i le l = let e : f i ≡ f 0 = ap f (omega arith) in omega arith
 root-by f n heap (suc fuel) i le l =
     ⊎-elim
-      (λ (z : 0 < i). let k = heap i z l in let r = root-by f n heap fuel (parent i) (omega arith) (omega arith) in omega arith)
-      (λ (m : i ≤ 0). let e : f i ≡ f 0 = ap f (omega arith) in omega arith)
-      (cases-lt 0 i)
+    (λ (z : 0 < i). let k = heap i z l in let r = root-by f n heap fuel (parent i) (omega arith) (omega arith) in omega arith)
+    (λ (m : i ≤ 0). let e : f i ≡ f 0 = ap f (omega arith) in omega arith)
+    (cases-lt 0 i)
 
 pub root-first : (f : ℕ → ℕ) (n i : ℕ) → IsHeap f n → i < n → f 0 ≤ f i
 root-first f n i heap l = root-by f n heap i i (omega arith) l

@@ -1,3 +1,4 @@
 pub mod Front
 pub mod Heaps
+pub mod Pairs
 pub mod Rolls

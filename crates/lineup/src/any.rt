@@ -3,9 +3,10 @@ ghost use mathlib.Core.Path.{_≡_};
 ghost use lib.ListN.{length};
 ghost use Rattle.lineup.specs.Rolls.{noKeys};
 ghost use Rattle.lineup.specs.Front.{frontEntry};
+use crate::entry::Entry;
+use crate::entry::entry_at;
 use crate::roll::LineUp;
 use crate::roll::Roll;
-use crate::search::Entry;
 
 // Takes every place out.
 pub fn clear<R: Roll>(roll: &mut R)
@@ -21,6 +22,5 @@ pub fn front_with_key<L: LineUp>(line: &L) -> Option<Entry>
     ensures answers_the_front { λ r. ⌜ r ≡ frontEntry (L·Roll .keys (now (line .entry))) ⌝ }
 {
     let place = line.front()?;
-    let key = line.key_of(place)?;
-    Some(Entry { place, key })
+    entry_at(line, place)
 }

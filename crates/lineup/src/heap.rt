@@ -81,7 +81,11 @@ impl Heap {
     fn root(&self) -> Option<usize>
         ensures answers_the_root { λ r. ⌜ r ≡ rootOf (now (self .entry) .order .places) (now (self .entry) .len) ⌝ }
     {
-        if self.len == 0 { None } else { Some(self.order.places[0]) }
+        if self.len == 0 {
+            None
+        } else {
+            Some(self.order.places[0])
+        }
     }
 }
 
@@ -93,7 +97,11 @@ pub impl Roll for Heap as HeapRoll {
     }
 
     fn key_of(&self, place: usize) -> Option<u64> {
-        if place < PLACES { self.keys[place] } else { None }
+        if place < PLACES {
+            self.keys[place]
+        } else {
+            None
+        }
     }
 
     fn put(&mut self, place: usize, key: u64) -> Result<(), RollRefusal> {

@@ -46,7 +46,12 @@ pub(crate) fn sift_up(order: &mut Permutation, keys: &[Option<u64>; PLACES], len
 }
 
 // The child of position `i` that ranks before the other, or none where it has no child.
-fn least_child(order: &Permutation, keys: &[Option<u64>; PLACES], len: usize, i: usize) -> Option<usize>
+fn least_child(
+    order: &Permutation,
+    keys: &[Option<u64>; PLACES],
+    len: usize,
+    i: usize,
+) -> Option<usize>
     requires { ⌜ i < len ⌝ ∗ ⌜ len ≤ heapPlaces ⌝ }
     ensures answers_the_least { λ r. ⌜ BySome r (len ≤ 2 * i + 1) (λ c. LeastChild (rankAt (now (keys .entry)) (now (order .entry) .places)) len i c) ⌝ }
 {
@@ -62,7 +67,12 @@ fn least_child(order: &Permutation, keys: &[Option<u64>; PLACES], len: usize, i:
 }
 
 // Moves what stands at `at` down to where it belongs.
-pub(crate) fn sift_down(order: &mut Permutation, keys: &[Option<u64>; PLACES], len: usize, at: usize)
+pub(crate) fn sift_down(
+    order: &mut Permutation,
+    keys: &[Option<u64>; PLACES],
+    len: usize,
+    at: usize,
+)
     requires { ⌜ at < len ⌝ ∗ ⌜ len ≤ heapPlaces ⌝ }
     requires { ⌜ ButDown (rankAt (now keys) (now order .places)) len at ⌝ }
     requires { ⌜ Across (rankAt (now keys) (now order .places)) len at ⌝ }

@@ -2,6 +2,7 @@
 ghost use mathlib.Core.Path.{_≡_};
 ghost use lib.ListN.{length};
 ghost use Rattle.lineup.specs.Rolls.{tablePlaces, noKeys};
+use crate::entry::place_of;
 use crate::refusal::RollRefusal;
 use crate::roll::LineUp;
 use crate::roll::Roll;
@@ -21,7 +22,9 @@ impl Table {
     pub fn new() -> Self
         ensures is_empty { λ r. ⌜ r .keys ≡ noKeys tablePlaces ⌝ }
     {
-        Table { keys: [None; PLACES] }
+        Table {
+            keys: [None; PLACES],
+        }
     }
 }
 
@@ -33,7 +36,11 @@ pub impl Roll for Table as TableRoll {
     }
 
     fn key_of(&self, place: usize) -> Option<u64> {
-        if place < PLACES { self.keys[place] } else { None }
+        if place < PLACES {
+            self.keys[place]
+        } else {
+            None
+        }
     }
 
     fn put(&mut self, place: usize, key: u64) -> Result<(), RollRefusal> {
@@ -56,6 +63,6 @@ pub impl Roll for Table as TableRoll {
 
 pub impl LineUp for Table as TableLineUp {
     fn front(&self) -> Option<usize> {
-        front_below(self, PLACES)
+        place_of(front_below(self, PLACES))
     }
 }

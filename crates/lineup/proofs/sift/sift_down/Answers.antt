@@ -23,8 +23,9 @@ loop-child-again c =
     let s = ranks-swapped ks (o .places) (p .places) i d (x .0) in
     let less = ltb-true (f d) (f i) (sym (c .before-at .ensures .compares-ranks) ∙ c .if-not-before-at .left) in
     let inside = least .1 in
-    let keeps = exchanged-same-first (o .places) (o .positions) (p .places) (p .positions) (o .placed) (o .back) i d (omega arith) (omega arith) x n (inv .0) (omega arith) in
-    ( inside
-    , λ q l. keeps q l ∙ inv .1 q l
-    , down-but f g n i d least s less (inv .2) (inv .3)
-    , down-across f g n i d least s less (inv .2) (inv .3))
+    let keeps = exchanged-same-first (o .places) (o .positions) (p .places) (p .positions) (o .placed) (o .back) i d (omega arith) (omega arith) x n (inv .0) (omega arith) in (
+      inside,
+      λ q l. keeps q l ∙ inv .1 q l,
+      down-but f g n i d least s less (inv .2) (inv .3),
+      down-across f g n i d least s less (inv .2) (inv .3),
+    )

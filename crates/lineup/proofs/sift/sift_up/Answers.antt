@@ -20,8 +20,9 @@ loop-i-again c =
     let g = rankAt ks (p .places) in
     let s = ranks-swapped ks (o .places) (p .places) i (parent i) (x .0) in
     let less = ltb-true (f i) (f (parent i)) (sym (c .before-at .ensures .compares-ranks) ∙ c .if-not-before-at .left) in
-    let keeps = exchanged-same-first (o .places) (o .positions) (p .places) (p .positions) (o .placed) (o .back) i (parent i) (omega arith) (omega arith) x n (inv .0) (omega arith) in
-    ( omega arith
-    , λ q l. keeps q l ∙ inv .1 q l
-    , up-but f g n i (omega arith) (inv .0) s less (inv .2) (inv .3)
-    , up-across f g n i (omega arith) (inv .0) s less (inv .2) (inv .3))
+    let keeps = exchanged-same-first (o .places) (o .positions) (p .places) (p .positions) (o .placed) (o .back) i (parent i) (omega arith) (omega arith) x n (inv .0) (omega arith) in (
+      omega arith,
+      λ q l. keeps q l ∙ inv .1 q l,
+      up-but f g n i (omega arith) (inv .0) s less (inv .2) (inv .3),
+      up-across f g n i (omega arith) (inv .0) s less (inv .2) (inv .3),
+    )

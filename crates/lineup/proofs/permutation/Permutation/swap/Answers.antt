@@ -17,11 +17,22 @@ ghost-self c =
     let places = c .swap-both .ensures .swaps-the-places in
     let positions = c .swap-both .ensures .swaps-their-positions in
     let x : Exchanged (o .places) (o .positions) (c .swap-both .last .places) (c .swap-both .last .positions) a b =
-      rw (places, positions) (swapped-exchanges (o .places) (o .positions) a b (omega arith) (omega arith) (omega arith) (omega arith)) in
-    ( rw places (simp length-set (o .long))
-    , ( rw positions (simp length-set (o .wide))
-      , ( exchanged-places-inside (o .places) (o .positions) _ _ (o .placed) (o .back) a b la lb x
-        , ( exchanged-positions-inside (o .places) (o .positions) _ _ (o .placed) (o .back) a b la lb x (o .positioned)
-          , ( exchanged-back (o .places) (o .positions) _ _ (o .placed) (o .back) a b la lb x
-            , ( exchanged-forth (o .places) (o .positions) _ _ (o .placed) (o .back) a b la lb x (o .forth)
-              , tt))))))
+    rw (places, positions) (swapped-exchanges (o .places) (o .positions) a b (omega arith) (omega arith) (omega arith) (omega arith)) in (
+      rw places (simp length-set (o .long)),
+      (
+        rw positions (simp length-set (o .wide)),
+        (
+          exchanged-places-inside (o .places) (o .positions) _ _ (o .placed) (o .back) a b la lb x,
+          (
+            exchanged-positions-inside (o .places) (o .positions) _ _ (o .placed) (o .back) a b la lb x (o .positioned),
+            (
+              exchanged-back (o .places) (o .positions) _ _ (o .placed) (o .back) a b la lb x,
+              (
+                exchanged-forth (o .places) (o .positions) _ _ (o .placed) (o .back) a b la lb x (o .forth),
+                tt,
+              ),
+            ),
+          ),
+        ),
+      ),
+    )
