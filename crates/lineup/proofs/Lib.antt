@@ -1,6 +1,6 @@
 pub mod Fronts
 mod Heaped
-mod Joins
+pub mod Joins
 mod Pairing
 mod Permutations
 mod Sifts

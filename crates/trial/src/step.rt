@@ -1,0 +1,68 @@
+// One call of a line-up as a value, and what it answers.
+ghost use mathlib.Core.Path.{_≡_};
+ghost use Rattle.trial.specs.Steps.{answerTo, keysAfter, sameAnswer};
+use lineup::LineUp;
+use lineup::Roll;
+use lineup::RollRefusal;
+use lineup::clear;
+
+// A call: one of the roll's or the line-up's own, or that of all places to be taken out.
+#[derive(Clone, Copy)]
+pub enum Step {
+    Put { place: usize, key: u64 },
+    TakeOut { place: usize },
+    KeyOf { place: usize },
+    Front,
+    Clear,
+}
+
+// What a call answers.
+#[derive(Clone, Copy)]
+pub enum Answer {
+    // the key was put
+    Accepted,
+    // the key was not put
+    Refused(RollRefusal),
+    // the key of a place, or none
+    Key(Option<u64>),
+    // the place in front, or none
+    Place(Option<usize>),
+    // all places were taken out
+    Cleared,
+}
+
+// Makes a call.
+pub fn apply<L: LineUp>(line: &mut L, step: Step) -> Answer
+    ensures answers { λ r. ⌜ r ≡ answerTo (L·Roll .keys (now (line .entry))) step ⌝ }
+    ensures leaves { λ _. ⌜ L·Roll .keys (now (line .exit)) ≡ keysAfter (L·Roll .keys (now (line .entry))) step ⌝ }
+{
+    match step {
+        Step::Put { place, key } => match line.put(place, key) {
+            Ok(()) => Answer::Accepted,
+            Err(refusal) => Answer::Refused(refusal),
+        },
+        Step::TakeOut { place } => Answer::Key(line.take_out(place)),
+        Step::KeyOf { place } => Answer::Key(line.key_of(place)),
+        Step::Front => Answer::Place(line.front()),
+        Step::Clear => {
+            clear(line);
+            Answer::Cleared
+        }
+    }
+}
+
+impl Answer {
+    // Whether another answer is the same.
+    pub fn same(self, other: Answer) -> bool
+        ensures tells { λ r. ⌜ r ≡ sameAnswer self other ⌝ }
+    {
+        match (self, other) {
+            (Answer::Accepted, Answer::Accepted) => true,
+            (Answer::Refused(_), Answer::Refused(_)) => true,
+            (Answer::Key(a), Answer::Key(b)) => a == b,
+            (Answer::Place(a), Answer::Place(b)) => a == b,
+            (Answer::Cleared, Answer::Cleared) => true,
+            _ => false,
+        }
+    }
+}
