@@ -33,16 +33,9 @@ front-unique ks None None f g = refl
 front-unique ks None (Some q) f (k, e, g) = absurd (none-some (f q) e)
 front-unique ks (Some p) None (k, e, f) g = absurd (none-some (g p) e)
 front-unique ks (Some p) (Some q) (k, e, f) (j, e′, g) =
-    let a = f q j e′ in
-    let b = g p k e in
-    let a0 = a .0 in
-    let a1 = a .1 in
-    let b0 = b .0 in
-    let b1 = b .1 in
-    ap Some
-    (⊎-elim (λ (l : p < q). absurd (let h = b1 l in omega arith))
-    (λ (m : q ≤ p). ⊎-elim (λ (l : q < p). absurd (let h = a1 l in omega arith)) (λ (n : p ≤ q). omega arith) (cases-lt q p))
-    (cases-lt p q))
+    let there = f q j e′ in
+    let here = g p k e in
+    ap Some (grind (arith, there, here))
 
 -- a front with its key
 abbrev pub Leads : List (Option ℕ) → Option Entry → Type 0
@@ -68,7 +61,7 @@ leads-cons None ks (Some e) (at, h) = (next-key None ks (e .place) ∙ at, go)
 leads-cons (Some k) ks None h = (refl, go)
   where
     go : (q j : ℕ) → keyAt (Some k ∷ ks) q ≡ Some j → (k ≤ j) × (q < 0 → k < j)
-    go zero j a = let e = same-some refl a in (omega arith, λ l. absurd (omega arith))
+    go zero j a = grind (arith, same-some refl a)
     go (suc q) j a = absurd (none-some (h q) a)
 leads-cons (Some k) ks (Some e) (at, h) =
     cond-both (ltb (e .key) k) _ _ (Leads (Some k ∷ ks))
@@ -76,12 +69,12 @@ leads-cons (Some k) ks (Some e) (at, h) =
     (λ t. (refl, here (ltb-false (e .key) k t)))
   where
     here : k ≤ e .key → (q j : ℕ) → keyAt (Some k ∷ ks) q ≡ Some j → (k ≤ j) × (q < 0 → k < j)
-    here le zero j a = let s = same-some refl a in (omega arith, λ l. absurd (omega arith))
-    here le (suc q) j a = let r = h q j a in let r0 = r .0 in (omega arith, λ l. absurd (omega arith))
+    here le zero j a = grind (arith, same-some refl a)
+    here le (suc q) j a = grind (arith, h q j a)
 
     there : e .key < k → (q j : ℕ) → keyAt (Some k ∷ ks) q ≡ Some j → (e .key ≤ j) × (q < e .place + 1 → e .key < j)
-    there lt zero j a = let s = same-some refl a in (omega arith, λ l. omega arith)
-    there lt (suc q) j a = let r = h q j a in (r .0, λ l. r .1 (omega arith))
+    there lt zero j a = grind (arith, same-some refl a)
+    there lt (suc q) j a = grind (arith, h q j a)
 
 pub leads-found : (ks : List (Option ℕ)) → Leads ks (frontEntry ks)
 leads-found [] = λ q. refl

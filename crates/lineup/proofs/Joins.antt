@@ -1,50 +1,35 @@
 -- The front of two lists of keys, one behind the other.
 use mathlib.Core.Path.{_≡_, refl, sym, ap, _∙_}
-use mathlib.Core.Bool.{Bool, true, false, cond}
 use mathlib.Core.List.{List, [], _∷_, _++_}
 use mathlib.Core.Logic.{⊎-elim}
 use Prim.Native.Nat.{ℕ, suc, _+_, _<_, _≤_}
 use native.Mathlib.Numerals.{add-one}
 use native.Mathlib.Omega.{arith}
-use lib.Dec.{ltb}
 use lib.ListN.{length, take, length-take}
 use Rattle.std.proofs.shelf.Lists.{getD-past, take-all, take-more}
-use Rattle.std.proofs.shelf.Tests.{cases-lt, lt-ltb, le-ltb}
+use Rattle.std.proofs.shelf.Ways.{tells}
+use Rattle.std.proofs.shelf.Tests.{cases-lt}
 use Rattle.std.specs.declared.option.Option.{Option}
 use Rattle.std.specs.declared.option.Option.the-variants.{Some, None}
 use Rattle.lineup.specs.declared.entry.Entry.{Entry}
 use Rattle.lineup.specs.Rolls.{keyAt}
 use Rattle.lineup.specs.Front.{entryOf, moved, soonerOf, frontEntry}
 
+sooner-alone : (a : Option Entry) → soonerOf a None ≡ a
+sooner-alone None = refl
+sooner-alone (Some a) = refl
+
 -- among three, it is all one which two are compared first
 sooner-assoc : (a b c : Option Entry) → soonerOf (soonerOf a b) c ≡ soonerOf a (soonerOf b c)
 sooner-assoc None b c = refl
 sooner-assoc (Some a) None c = refl
-sooner-assoc (Some a) (Some b) None = by (ltb (b .key) (a .key))
-  where
-    by : (t : Bool) → soonerOf (cond t (Some b) (Some a)) None ≡ cond t (Some b) (Some a)
-    by true = refl
-    by false = refl
-sooner-assoc (Some a) (Some b) (Some c) =
-    ⊎-elim
-    (λ (l : b .key < a .key).
-    ⊎-elim (λ (m : c .key < b .key). rw (lt-ltb _ _ l, lt-ltb _ _ m, lt-ltb (c .key) (a .key) (omega arith)) refl)
-    (λ (m : b .key ≤ c .key). rw (lt-ltb _ _ l, le-ltb _ _ m) (rw (lt-ltb _ _ l) refl))
-    (cases-lt (c .key) (b .key)))
-    (λ (l : a .key ≤ b .key).
-    ⊎-elim (λ (m : c .key < b .key). rw (le-ltb _ _ l, lt-ltb _ _ m) refl)
-    (λ (m : b .key ≤ c .key). rw (le-ltb _ _ l, le-ltb _ _ m, le-ltb (c .key) (a .key) (omega arith)) (rw (le-ltb _ _ l) refl))
-    (cases-lt (c .key) (b .key)))
-    (cases-lt (b .key) (a .key))
+sooner-assoc (Some a) (Some b) None = sooner-alone (soonerOf (Some a) (Some b))
+sooner-assoc (Some a) (Some b) (Some c) = grind (arith, tells)
 
 moved-sooner : (n : ℕ) (a b : Option Entry) → moved n (soonerOf a b) ≡ soonerOf (moved n a) (moved n b)
 moved-sooner n None b = refl
 moved-sooner n (Some a) None = refl
-moved-sooner n (Some a) (Some b) = by (ltb (b .key) (a .key))
-  where
-    by : (t : Bool) → moved n (cond t (Some b) (Some a)) ≡ cond t (moved n (Some b)) (moved n (Some a))
-    by true = refl
-    by false = refl
+moved-sooner n (Some a) (Some b) = grind (arith, tells)
 
 moved-moved : (m n : ℕ) (a : Option Entry) → moved m (moved n a) ≡ moved (n + m) a
 moved-moved m n None = refl
@@ -65,10 +50,6 @@ front-append (o ∷ xs) ys =
 one-place : (n : ℕ) (o : Option ℕ) → moved n (frontEntry (o ∷ [])) ≡ entryOf n o
 one-place n None = refl
 one-place n (Some k) = ap (λ p. Some (record { place = p; key = k })) (omega arith)
-
-sooner-alone : (a : Option Entry) → soonerOf a None ≡ a
-sooner-alone None = refl
-sooner-alone (Some a) = refl
 
 -- one place more, behind all others
 front-more : (ks : List (Option ℕ)) (i : ℕ) → soonerOf (frontEntry (take i ks)) (entryOf i (keyAt ks i)) ≡ frontEntry (take (i + 1) ks)

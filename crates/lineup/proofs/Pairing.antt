@@ -1,36 +1,32 @@
 -- A place of a pair is a place of one of its two, or of none.
 use mathlib.Core.Path.{_≡_, refl, sym, ap, subst, _∙_}
-use mathlib.Core.Bool.{cond}
 use mathlib.Core.List.{List, [], _∷_, _++_}
-use mathlib.Core.Logic.{⊎-elim}
 use Prim.Native.Nat.{ℕ, zero, suc, _+_, _-_, _^_, _<_, _≤_}
 use native.Mathlib.Omega.{arith}
 use lib.Dec.{ltb}
 use lib.ListN.{length, length-append, length-set, length-take, set, take}
 use Rattle.std.proofs.shelf.Lists.{getD-past, getD-take, getD-append-left, getD-append-right, set-append-left, set-append-right, set-past}
-use Rattle.std.proofs.shelf.Tests.{cases-lt, cond-both, lt-ltb, le-ltb, ltb-true, ltb-false}
+use Rattle.std.proofs.shelf.Tests.{cond-both, ltb-true, ltb-false}
+use Rattle.std.proofs.shelf.Ways.{tells}
 use Rattle.std.specs.Options.{Cases as BySome}
 use Rattle.std.specs.declared.option.Option.{Option}
 use Rattle.std.specs.declared.option.Option.the-variants.{Some, None}
-use Rattle.std.specs.declared.result.Result.the-variants.{Ok, Err}
+use Rattle.std.specs.declared.result.Result.the-variants.{Err}
 use Rattle.lineup.specs.declared.entry.Entry.{Entry}
+use Rattle.lineup.specs.declared.pair.Side.the-variants.{First, Second, Beyond}
 use Rattle.lineup.specs.declared.refusal.RollRefusal.the-variants.{NoPlace}
-use Rattle.lineup.specs.Rolls.{mostPlaces, keyAt, putAnswer}
+use Rattle.lineup.specs.Rolls.{mostPlaces, putAnswer}
 use Rattle.lineup.specs.Front.{frontEntry, moved, soonerOf}
 use Rattle.lineup.specs.Pairs.{joint, capped, sideOf, StandsFor}
 use Rattle.lineup.proofs.Fronts.{Leads, leads-found, within}
 use Rattle.lineup.proofs.Joins.{front-append}
 
 -- put's answer rests on no more than whether the place is below the capacity
-answer-in : (ks : List (Option ℕ)) (p : ℕ) → p < length ks → putAnswer ks p ≡ Ok tt
-answer-in ks p h = ap (λ b. cond b (Ok tt) (Err NoPlace)) (lt-ltb p (length ks) h)
+answer-same : (ks ls : List (Option ℕ)) (p q : ℕ) → (p < length ks → q < length ls) → (length ks ≤ p → length ls ≤ q) → putAnswer ks p ≡ putAnswer ls q
+answer-same ks ls p q f g = grind (arith, tells, f, g)
 
 answer-out : (ks : List (Option ℕ)) (p : ℕ) → length ks ≤ p → putAnswer ks p ≡ Err NoPlace
-answer-out ks p h = ap (λ b. cond b (Ok tt) (Err NoPlace)) (le-ltb p (length ks) h)
-
-answer-same : (ks ls : List (Option ℕ)) (p q : ℕ) → (p < length ks → q < length ls) → (length ks ≤ p → length ls ≤ q) → putAnswer ks p ≡ putAnswer ls q
-answer-same ks ls p q f g =
-    ⊎-elim (λ l. answer-in ks p l ∙ sym (answer-in ls q (f l))) (λ m. answer-out ks p m ∙ sym (answer-out ls q (g m))) (cases-lt p (length ks))
+answer-out ks p h = grind (arith, tells)
 
 take-of-set : {X : Type 0} (n : ℕ) (l : List X) (i : ℕ) (a : X) → take n (set l i a) ≡ set (take n l) i a
 take-of-set zero l i a = refl
@@ -42,7 +38,7 @@ module _ (xs ys : List (Option ℕ)) (few : length xs ≤ mostPlaces) where
   pub length-joint : length (joint xs ys) ≡ capped (length xs) (length ys)
   length-joint = simp (length-append, length-take) (omega arith)
 
-  stands-first : (place : ℕ) → place < length xs → (keyAt (joint xs ys) place ≡ keyAt xs place) × (putAnswer (joint xs ys) place ≡ putAnswer xs place) × ((v : Option ℕ) → set (joint xs ys) place v ≡ joint (set xs place v) ys)
+  stands-first : (place : ℕ) → place < length xs → StandsFor xs ys place (First place)
   stands-first place h =
       let rest = take (mostPlaces - length xs) ys in (
         getD-append-left xs rest None place h,
@@ -50,7 +46,7 @@ module _ (xs ys : List (Option ℕ)) (few : length xs ≤ mostPlaces) where
         λ v. set-append-left xs rest place v h ∙ ap (λ n. set xs place v ++ take (mostPlaces - n) ys) (sym (length-set xs place v)),
       )
 
-  stands-second : (place : ℕ) → length xs ≤ place → place < mostPlaces → (keyAt (joint xs ys) place ≡ keyAt ys (place - length xs)) × (putAnswer (joint xs ys) place ≡ putAnswer ys (place - length xs)) × ((v : Option ℕ) → set (joint xs ys) place v ≡ joint xs (set ys (place - length xs) v))
+  stands-second : (place : ℕ) → length xs ≤ place → place < mostPlaces → StandsFor xs ys place (Second (place - length xs))
   stands-second place h l =
       let rest = take (mostPlaces - length xs) ys in
       let e = length-joint in (
@@ -59,7 +55,7 @@ module _ (xs ys : List (Option ℕ)) (few : length xs ≤ mostPlaces) where
         λ v. set-append-right xs rest (length xs) place v refl h ∙ ap (λ t. xs ++ t) (sym (take-of-set (mostPlaces - length xs) ys (place - length xs) v)),
       )
 
-  stands-nowhere : (place : ℕ) → mostPlaces ≤ place → (keyAt (joint xs ys) place ≡ None) × (putAnswer (joint xs ys) place ≡ Err NoPlace) × ((v : Option ℕ) → set (joint xs ys) place v ≡ joint xs ys)
+  stands-nowhere : (place : ℕ) → mostPlaces ≤ place → StandsFor xs ys place Beyond
   stands-nowhere place h =
       let e = length-joint in
       let past : length (joint xs ys) ≤ place = omega arith in

@@ -52,8 +52,8 @@ abbrev pub Swapped : (ℕ → ℕ) → (ℕ → ℕ) → ℕ → ℕ → Type 0
 Swapped f g a b = (g a ≡ f b) × (g b ≡ f a) × ((m : ℕ) → (m ≡ a → ⊥) → (m ≡ b → ⊥) → g m ≡ f m)
 
 -- a list with two entries swapped
-abbrev pub swapped : List ℕ → ℕ → ℕ → List ℕ
-swapped xs a b = set (set xs a (getD xs b 0)) b (getD xs a 0)
+abbrev pub swapAt : List ℕ → ℕ → ℕ → List ℕ
+swapAt xs a b = set (set xs a (getD xs b 0)) b (getD xs a 0)
 
 -- two positions have swapped their places, and these two places their positions
 abbrev pub Exchanged : List ℕ → List ℕ → List ℕ → List ℕ → ℕ → ℕ → Type 0
@@ -61,7 +61,7 @@ Exchanged places positions places′ positions′ a b =
     Swapped (λ i. getD places i 0) (λ i. getD places′ i 0) a b
     × Swapped (λ p. getD positions p 0) (λ p. getD positions′ p 0) (getD places a 0) (getD places b 0)
 
--- numbers of places, or of positions
+-- every entry is the number of a place, or of a position
 abbrev pub Inside : List ℕ → Type 0
 Inside xs = (i : ℕ) → i < heapPlaces → getD xs i 0 < heapPlaces
 

@@ -1,8 +1,9 @@
 // Code over any roll and any line-up, whoever wrote it.
 ghost use mathlib.Core.Path.{_≡_};
 ghost use lib.ListN.{length};
+ghost use Rattle.std.specs.declared.option.Option.the-variants.{Some};
 ghost use Rattle.lineup.specs.Rolls.{noKeys};
-ghost use Rattle.lineup.specs.Front.{frontEntry};
+ghost use Rattle.lineup.specs.Front.{frontEntry, frontOf};
 use crate::entry::Entry;
 use crate::entry::entry_at;
 use crate::roll::LineUp;
@@ -17,10 +18,18 @@ pub fn clear<R: Roll>(roll: &mut R)
     }
 }
 
+// The key of the place in front, with that place.
+fn entry_of_front<L: LineUp>(line: &L, place: usize) -> Option<Entry>
+    requires { ⌜ Some place ≡ frontOf (L·Roll .keys (now line)) ⌝ }
+    ensures answers_the_front { λ r. ⌜ r ≡ frontEntry (L·Roll .keys (now (line .entry))) ⌝ }
+{
+    entry_at(line, place)
+}
+
 // The place in front with its key, or none.
 pub fn front_with_key<L: LineUp>(line: &L) -> Option<Entry>
     ensures answers_the_front { λ r. ⌜ r ≡ frontEntry (L·Roll .keys (now (line .entry))) ⌝ }
 {
     let place = line.front()?;
-    entry_at(line, place)
+    entry_of_front(line, place)
 }

@@ -7,6 +7,7 @@ ghost use Rattle.std.specs.Options.{isSome};
 ghost use Rattle.std.specs.declared.option.Option.the-variants.{Some, None};
 ghost use Rattle.lineup.specs.Rolls.{heapPlaces, keyAt, noKeys};
 ghost use Rattle.lineup.specs.Heaps.{rankAt, IsHeap, Members, rootOf};
+use crate::keys::key_in;
 use crate::permutation::PLACES;
 use crate::permutation::Permutation;
 use crate::refusal::RollRefusal;
@@ -97,11 +98,7 @@ pub impl Roll for Heap as HeapRoll {
     }
 
     fn key_of(&self, place: usize) -> Option<u64> {
-        if place < PLACES {
-            self.keys[place]
-        } else {
-            None
-        }
+        key_in(&self.keys, place)
     }
 
     fn put(&mut self, place: usize, key: u64) -> Result<(), RollRefusal> {

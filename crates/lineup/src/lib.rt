@@ -4,6 +4,7 @@
 mod any;
 mod entry;
 mod heap;
+mod keys;
 mod pair;
 mod permutation;
 mod refusal;

@@ -79,13 +79,14 @@ impl<A: LineUp, B: LineUp> Pair<A, B> {
     }
 
     // A pair without a key: all places of both are taken out first.
-    pub fn empty(mut first: A, mut second: B) -> Self
+    pub fn empty(first: A, second: B) -> Self
         ensures empties_the_first { λ r. ⌜ A·Roll .keys (r .first) ≡ noKeys (length (A·Roll .keys first)) ⌝ }
         ensures empties_the_second { λ r. ⌜ B·Roll .keys (r .second) ≡ noKeys (length (B·Roll .keys second)) ⌝ }
     {
-        clear(&mut first);
-        clear(&mut second);
-        Pair { first, second }
+        let mut pair = Pair { first, second };
+        clear(&mut pair.first);
+        clear(&mut pair.second);
+        pair
     }
 
     // Where a place stands.

@@ -3,7 +3,7 @@ ghost use mathlib.Core.Path.{_≡_};
 ghost use Prim.Native.Nat.{ℕ, _<_};
 ghost use lib.ListN.{length, getD};
 ghost use Rattle.lineup.specs.Rolls.{heapPlaces};
-ghost use Rattle.lineup.specs.Heaps.{Inside, Undone, Exchanged, swapped};
+ghost use Rattle.lineup.specs.Heaps.{Inside, Undone, Exchanged, swapAt};
 
 // How many places a heap has.
 pub(crate) const PLACES: usize = 48;
@@ -36,8 +36,8 @@ fn counted() -> [usize; PLACES]
 fn swap_both(places: &mut [usize; PLACES], positions: &mut [usize; PLACES], a: usize, b: usize)
     requires { ⌜ a < length (now places) ⌝ ∗ ⌜ b < length (now places) ⌝ }
     requires { ⌜ getD (now places) a 0 < length (now positions) ⌝ ∗ ⌜ getD (now places) b 0 < length (now positions) ⌝ }
-    ensures swaps_the_places { λ _. ⌜ now (places .exit) ≡ swapped (now (places .entry)) a b ⌝ }
-    ensures swaps_their_positions { λ _. ⌜ now (positions .exit) ≡ swapped (now (positions .entry)) (getD (now (places .entry)) a 0) (getD (now (places .entry)) b 0) ⌝ }
+    ensures swaps_the_places { λ _. ⌜ now (places .exit) ≡ swapAt (now (places .entry)) a b ⌝ }
+    ensures swaps_their_positions { λ _. ⌜ now (positions .exit) ≡ swapAt (now (positions .entry)) (getD (now (places .entry)) a 0) (getD (now (places .entry)) b 0) ⌝ }
 {
     positions.swap(places[a], places[b]);
     places.swap(a, b);

@@ -3,6 +3,7 @@ ghost use mathlib.Core.Path.{_≡_};
 ghost use lib.ListN.{length};
 ghost use Rattle.lineup.specs.Rolls.{tablePlaces, noKeys};
 use crate::entry::place_of;
+use crate::keys::key_in;
 use crate::refusal::RollRefusal;
 use crate::roll::LineUp;
 use crate::roll::Roll;
@@ -36,11 +37,7 @@ pub impl Roll for Table as TableRoll {
     }
 
     fn key_of(&self, place: usize) -> Option<u64> {
-        if place < PLACES {
-            self.keys[place]
-        } else {
-            None
-        }
+        key_in(&self.keys, place)
     }
 
     fn put(&mut self, place: usize, key: u64) -> Result<(), RollRefusal> {

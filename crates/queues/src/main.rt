@@ -23,33 +23,35 @@ const SEED: u64 = 2026;
 
 const CALLS: usize = 6000;
 
-// Says what came of the calls.
-fn show(rt: &LibcRuntime, name: &str, places: usize, tally: Tally) -> Result<(), AnyError> {
-    println!(rt, "{name}, {places} places")?;
+// Says how many calls there are of each kind.
+fn show_calls(rt: &LibcRuntime, steps: &[Step]) -> Result<(), AnyError> {
+    let mut puts: u64 = 0;
+    let mut take_outs: u64 = 0;
+    let mut keys: u64 = 0;
+    let mut fronts: u64 = 0;
+    let mut clears: u64 = 0;
+    for step in steps {
+        match step {
+            Step::Put { .. } => puts = puts.saturating_add(1),
+            Step::TakeOut { .. } => take_outs = take_outs.saturating_add(1),
+            Step::KeyOf { .. } => keys = keys.saturating_add(1),
+            Step::Front => fronts = fronts.saturating_add(1),
+            Step::Clear => clears = clears.saturating_add(1),
+        }
+    }
     println!(
         rt,
-        "  {} keys put, {} puts refused",
-        tally.accepted, tally.refused
+        "{} calls, drawn from the seed {SEED}, the same for each line-up",
+        steps.len()
     )?;
     println!(
         rt,
-        "  {} keys taken out or asked for, {} times there was none",
-        tally.keys, tally.no_keys
-    )?;
-    println!(
-        rt,
-        "  {} fronts, {} times there was none, {} times cleared",
-        tally.fronts, tally.no_fronts, tally.cleared
-    )?;
-    println!(
-        rt,
-        "  {} answers differ from those of a plain scan",
-        tally.differing
+        "{puts} puts, {take_outs} take-outs, {keys} questions for a key, {fronts} for the front, {clears} times cleared"
     )?;
     Ok(())
 }
 
-// Drives a line-up and a plain scan, and answers in how many answers they differ.
+// Drives a line-up and a plain scan of as many places, says what came of it, and answers in how many answers they differ.
 fn drive<L: LineUp>(
     rt: &LibcRuntime,
     name: &str,
@@ -57,34 +59,32 @@ fn drive<L: LineUp>(
     steps: &[Step],
 ) -> Result<u64, AnyError> {
     let mut scan = Scan::like(rt.alloc(), line)?;
-    let tally = compare(line, &mut scan, steps);
-    show(rt, name, line.capacity(), tally)?;
-    Ok(tally.differing)
+    let Tally {
+        calls,
+        refused,
+        none,
+        differing,
+    } = compare(line, &mut scan, steps);
+    println!(
+        rt,
+        "{name}, {} places: {calls} calls, {refused} refused, {none} answered none, {differing} not as the plain scan",
+        line.capacity()
+    )?;
+    Ok(differing)
 }
 
 // Drives every kind, and says whether all agreed.
 fn drive_all(rt: &LibcRuntime) -> Result<(), AnyError> {
     let steps = draw_steps(rt.alloc(), SEED, CALLS)?;
-    println!(
-        rt,
-        "{} calls to each line-up, drawn from the seed {SEED}",
-        steps.len()
-    )?;
-    let table = drive(rt, "a table", &mut Table::new(), &steps)?;
-    let heap = drive(rt, "a heap", &mut Heap::new(), &steps)?;
+    show_calls(rt, &steps)?;
+    let table = drive(rt, "table", &mut Table::new(), &steps)?;
+    let heap = drive(rt, "heap", &mut Heap::new(), &steps)?;
     let mut hall = Pair::new(Table::new(), Heap::new());
-    let pair = drive(rt, "a pair of a table and a heap", &mut hall, &steps)?;
-    let mut pairs = Pair::new(
-        Pair::new(Table::new(), Table::new()),
-        Pair::new(Heap::new(), Table::new()),
-    );
-    let both = drive(
-        rt,
-        "a pair of two pairs, one of two tables, one of a heap and a table",
-        &mut pairs,
-        &steps,
-    )?;
-    if table == 0 && heap == 0 && pair == 0 && both == 0 {
+    let pair = drive(rt, "pair of table and heap", &mut hall, &steps)?;
+    let low = Pair::new(Table::new(), Table::new());
+    let high = Pair::new(Heap::new(), Table::new());
+    let pairs = drive(rt, "pair of two pairs", &mut Pair::new(low, high), &steps)?;
+    if table == 0 && heap == 0 && pair == 0 && pairs == 0 {
         println!(rt, "all agreed with the plain scan")?;
     } else {
         println!(rt, "NOT all agreed with the plain scan")?;

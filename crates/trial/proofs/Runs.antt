@@ -1,6 +1,6 @@
 -- Lists of calls, one call after the other.
-use mathlib.Core.Path.{_≡_, refl, sym, _∙_}
-use mathlib.Core.Bool.{true, cond}
+use mathlib.Core.Path.{_≡_, refl, sym, ap, _∙_}
+use mathlib.Core.Bool.{true, not}
 use mathlib.Core.List.{List, [], _∷_}
 use Prim.Native.Nat.{ℕ, _+_, _<_}
 use lib.ListN.{drop, getD, length}
@@ -8,13 +8,16 @@ use Rattle.std.proofs.shelf.Lists.{at-drop-more}
 use Rattle.std.proofs.shelf.Tests.{eq-eqb}
 use Rattle.std.specs.declared.option.Option.{Option}
 use Rattle.std.specs.declared.option.Option.the-variants.{Some, None}
+use Rattle.std.specs.declared.result.Result.{Result}
+use Rattle.std.specs.declared.result.Result.the-variants.{Ok, Err}
+use Rattle.lineup.specs.declared.refusal.RollRefusal.{RollRefusal}
 use Rattle.trial.specs.declared.step.Step.{Step}
 use Rattle.trial.specs.declared.step.Step.the-variants.{Put}
 use Rattle.trial.specs.declared.step.Answer.{Answer}
-use Rattle.trial.specs.declared.step.Answer.the-variants.{Accepted, Refused, Key, Place, Cleared}
+use Rattle.trial.specs.declared.step.Answer.the-variants.{Done, Key, Place}
 use Rattle.trial.specs.declared.tally.Tally.{Tally}
-use Rattle.trial.specs.Steps.{answerTo, keysAfter, keysAfterAll, sameNumber, sameAnswer}
-use Rattle.trial.specs.Tallies.{answered, differed, counted, tallied}
+use Rattle.trial.specs.Steps.{answerTo, keysAfter, keysAfterAll, sameNumber, sameEnd, sameAnswer}
+use Rattle.trial.specs.Tallies.{countIf, counted, tallied}
 
 -- the call at a position of a list
 abbrev pub stepAt : List Step → ℕ → Step
@@ -31,27 +34,17 @@ same-number : (o : Option ℕ) → sameNumber o o ≡ true
 same-number None = refl
 same-number (Some n) = eq-eqb n n refl
 
+same-end : (r : Result Unit RollRefusal) → sameEnd r r ≡ true
+same-end (Ok u) = refl
+same-end (Err e) = refl
+
 same-answer : (a : Answer) → sameAnswer a a ≡ true
-same-answer Accepted = refl
-same-answer (Refused e) = refl
+same-answer (Done r) = same-end r
 same-answer (Key o) = same-number o
 same-answer (Place o) = same-number o
-same-answer Cleared = refl
-
-answered-keeps : (t : Tally) (a : Answer) → answered t a .differing ≡ t .differing
-answered-keeps t Accepted = refl
-answered-keeps t (Refused e) = refl
-answered-keeps t (Key None) = refl
-answered-keeps t (Key (Some k)) = refl
-answered-keeps t (Place None) = refl
-answered-keeps t (Place (Some p)) = refl
-answered-keeps t Cleared = refl
-
-counted-keeps : (t : Tally) (a : Answer) → counted t a a .differing ≡ t .differing
-counted-keeps t a = rw (same-answer a) (answered-keeps t a)
 
 -- the same keys give the same answers, whatever the calls are
 pub never-differs : (steps : List Step) (t : Tally) (ks : List (Option ℕ)) → tallied t ks ks steps .differing ≡ t .differing
 never-differs [] t ks = refl
 never-differs (s ∷ ss) t ks =
-    never-differs ss (counted t (answerTo ks s) (answerTo ks s)) (keysAfter ks s) ∙ counted-keeps t (answerTo ks s)
+    never-differs ss (counted t (answerTo ks s) (answerTo ks s)) (keysAfter ks s) ∙ ap (λ b. countIf (not b) (t .differing)) (same-answer (answerTo ks s))

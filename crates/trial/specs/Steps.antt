@@ -1,9 +1,11 @@
 -- What calls of a line-up answer and leave, by the list of its places' keys.
-use mathlib.Core.Bool.{Bool, true, false}
+use mathlib.Core.Bool.{Bool, true, false, not}
 use mathlib.Core.List.{List, [], _∷_}
 use Prim.Native.Nat.{ℕ}
 use lib.Dec.{eqb}
 use lib.ListN.{length, set}
+use Rattle.std.specs.Options.{isSome}
+use Rattle.std.specs.Results.{isErr}
 use Rattle.std.specs.declared.option.Option.{Option}
 use Rattle.std.specs.declared.option.Option.the-variants.{Some, None}
 use Rattle.std.specs.declared.result.Result.{Result}
@@ -14,20 +16,15 @@ use Rattle.lineup.specs.Front.{frontOf}
 use Rattle.trial.specs.declared.step.Step.{Step}
 use Rattle.trial.specs.declared.step.Step.the-variants.{Put, TakeOut, KeyOf, Front, Clear}
 use Rattle.trial.specs.declared.step.Answer.{Answer}
-use Rattle.trial.specs.declared.step.Answer.the-variants.{Accepted, Refused, Key, Place, Cleared}
-
--- put's answer as an answer
-abbrev pub ofPut : Result Unit RollRefusal → Answer
-ofPut (Ok u) = Accepted
-ofPut (Err e) = Refused e
+use Rattle.trial.specs.declared.step.Answer.the-variants.{Done, Key, Place}
 
 -- what a call answers
 abbrev pub answerTo : List (Option ℕ) → Step → Answer
-answerTo ks (Put p k) = ofPut (putAnswer ks p)
+answerTo ks (Put p k) = Done (putAnswer ks p)
 answerTo ks (TakeOut p) = Key (keyAt ks p)
 answerTo ks (KeyOf p) = Key (keyAt ks p)
 answerTo ks Front = Place (frontOf ks)
-answerTo ks Clear = Cleared
+answerTo ks Clear = Done (Ok tt)
 
 -- the keys after a call
 abbrev pub keysAfter : List (Option ℕ) → Step → List (Option ℕ)
@@ -49,30 +46,33 @@ sameNumber None (Some b) = false
 sameNumber (Some a) None = false
 sameNumber (Some a) (Some b) = eqb a b
 
--- whether two answers are the same; there is one refusal only
+-- whether two calls were both done, or both refused; there is one refusal only
+abbrev pub sameEnd : Result Unit RollRefusal → Result Unit RollRefusal → Bool
+sameEnd (Ok u) (Ok v) = true
+sameEnd (Ok u) (Err f) = false
+sameEnd (Err e) (Ok v) = false
+sameEnd (Err e) (Err f) = true
+
+-- whether two answers are the same
 abbrev pub sameAnswer : Answer → Answer → Bool
-sameAnswer Accepted Accepted = true
-sameAnswer Accepted (Refused f) = false
-sameAnswer Accepted (Key p) = false
-sameAnswer Accepted (Place p) = false
-sameAnswer Accepted Cleared = false
-sameAnswer (Refused e) Accepted = false
-sameAnswer (Refused e) (Refused f) = true
-sameAnswer (Refused e) (Key p) = false
-sameAnswer (Refused e) (Place p) = false
-sameAnswer (Refused e) Cleared = false
-sameAnswer (Key o) Accepted = false
-sameAnswer (Key o) (Refused f) = false
+sameAnswer (Done r) (Done s) = sameEnd r s
+sameAnswer (Done r) (Key o) = false
+sameAnswer (Done r) (Place o) = false
+sameAnswer (Key o) (Done r) = false
 sameAnswer (Key o) (Key p) = sameNumber o p
 sameAnswer (Key o) (Place p) = false
-sameAnswer (Key o) Cleared = false
-sameAnswer (Place o) Accepted = false
-sameAnswer (Place o) (Refused f) = false
+sameAnswer (Place o) (Done r) = false
 sameAnswer (Place o) (Key p) = false
 sameAnswer (Place o) (Place p) = sameNumber o p
-sameAnswer (Place o) Cleared = false
-sameAnswer Cleared Accepted = false
-sameAnswer Cleared (Refused f) = false
-sameAnswer Cleared (Key p) = false
-sameAnswer Cleared (Place p) = false
-sameAnswer Cleared Cleared = true
+
+-- whether a call was refused
+abbrev pub isRefused : Answer → Bool
+isRefused (Done r) = isErr r
+isRefused (Key o) = false
+isRefused (Place o) = false
+
+-- whether a key or a place was asked for, and none was there
+abbrev pub isNone : Answer → Bool
+isNone (Done r) = false
+isNone (Key o) = not (isSome o)
+isNone (Place o) = not (isSome o)

@@ -1,5 +1,4 @@
 // Line-ups tried side by side: a list of calls is made of two line-ups, and their answers are compared.
-
 mod draw;
 mod scan;
 mod side_by_side;

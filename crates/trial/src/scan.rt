@@ -13,6 +13,7 @@ use lineup::RollRefusal;
 use std::alloc::AllocError;
 use std::alloc::Global;
 
+// The key, or none, of each place.
 #[derive(Drop)]
 pub struct Scan {
     keys: Vec<Option<u64>>,

@@ -1,6 +1,6 @@
 // One call of a line-up as a value, and what it answers.
 ghost use mathlib.Core.Path.{_≡_};
-ghost use Rattle.trial.specs.Steps.{answerTo, keysAfter, sameAnswer};
+ghost use Rattle.trial.specs.Steps.{answerTo, isNone, isRefused, keysAfter, sameAnswer};
 use lineup::LineUp;
 use lineup::Roll;
 use lineup::RollRefusal;
@@ -19,16 +19,12 @@ pub enum Step {
 // What a call answers.
 #[derive(Clone, Copy)]
 pub enum Answer {
-    // the key was put
-    Accepted,
-    // the key was not put
-    Refused(RollRefusal),
+    // that it was done, or why not
+    Done(Result<(), RollRefusal>),
     // the key of a place, or none
     Key(Option<u64>),
     // the place in front, or none
     Place(Option<usize>),
-    // all places were taken out
-    Cleared,
 }
 
 // Makes a call.
@@ -37,16 +33,13 @@ pub fn apply<L: LineUp>(line: &mut L, step: Step) -> Answer
     ensures leaves { λ _. ⌜ L·Roll .keys (now (line .exit)) ≡ keysAfter (L·Roll .keys (now (line .entry))) step ⌝ }
 {
     match step {
-        Step::Put { place, key } => match line.put(place, key) {
-            Ok(()) => Answer::Accepted,
-            Err(refusal) => Answer::Refused(refusal),
-        },
+        Step::Put { place, key } => Answer::Done(line.put(place, key)),
         Step::TakeOut { place } => Answer::Key(line.take_out(place)),
         Step::KeyOf { place } => Answer::Key(line.key_of(place)),
         Step::Front => Answer::Place(line.front()),
         Step::Clear => {
             clear(line);
-            Answer::Cleared
+            Answer::Done(Ok(()))
         }
     }
 }
@@ -57,12 +50,31 @@ impl Answer {
         ensures tells { λ r. ⌜ r ≡ sameAnswer self other ⌝ }
     {
         match (self, other) {
-            (Answer::Accepted, Answer::Accepted) => true,
-            (Answer::Refused(_), Answer::Refused(_)) => true,
+            (Answer::Done(a), Answer::Done(b)) => a.is_ok() == b.is_ok(),
             (Answer::Key(a), Answer::Key(b)) => a == b,
             (Answer::Place(a), Answer::Place(b)) => a == b,
-            (Answer::Cleared, Answer::Cleared) => true,
             _ => false,
+        }
+    }
+
+    // Whether the call was refused.
+    pub fn is_refused(self) -> bool
+        ensures tells { λ r. ⌜ r ≡ isRefused self ⌝ }
+    {
+        match self {
+            Answer::Done(done) => done.is_err(),
+            _ => false,
+        }
+    }
+
+    // Whether a key or a place was asked for, and none was there.
+    pub fn is_none(self) -> bool
+        ensures tells { λ r. ⌜ r ≡ isNone self ⌝ }
+    {
+        match self {
+            Answer::Key(key) => key.is_none(),
+            Answer::Place(place) => place.is_none(),
+            Answer::Done(_) => false,
         }
     }
 }

@@ -1,4 +1,4 @@
-use mathlib.Core.Path.{_≡_, _∙_}
+use mathlib.Core.Path.{_∙_}
 use Rattle.lineup.proofs.Fronts.{front-kept, front-none-kept}
 use Rattle.lineup.proofs.pair.front_within.Needs as need
 

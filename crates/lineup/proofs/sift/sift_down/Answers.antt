@@ -1,8 +1,7 @@
-use mathlib.Core.Path.{_≡_, sym, _∙_}
-use Prim.Native.Nat.{_<_, _≤_}
+use mathlib.Core.Path.{sym, _∙_}
 use native.Mathlib.Omega.{arith}
 use Rattle.std.proofs.shelf.Tests.{ltb-true}
-use Rattle.lineup.specs.Heaps.{parent, rankAt}
+use Rattle.lineup.specs.Heaps.{rankAt}
 use Rattle.lineup.proofs.Permutations.{ranks-swapped, exchanged-same-first}
 use Rattle.lineup.proofs.Sifts.{down-but, down-across}
 use Rattle.lineup.proofs.sift.sift_down.Needs as need

@@ -1,4 +1,4 @@
-use mathlib.Core.Path.{_≡_, sym, ap, subst, _∙_}
+use mathlib.Core.Path.{sym, ap, subst, _∙_}
 use Rattle.lineup.specs.Pairs.{sideOf, StandsFor}
 use Rattle.lineup.proofs.Pairing.{stands-for}
 use Rattle.lineup.proofs.pair.Pair.side.Needs as need

@@ -1,5 +1,5 @@
-use mathlib.Core.Path.{_≡_, ap, _∙_}
-use Rattle.lineup.specs.Front.{moved, placeOf, soonerOf}
+use mathlib.Core.Path.{ap, _∙_}
+use Rattle.lineup.specs.Front.{placeOf, soonerOf}
 use Rattle.lineup.proofs.Pairing.{front-fits, pair-front}
 use Rattle.lineup.proofs.pair.PairLineUp.front.Needs as need
 

@@ -1,4 +1,4 @@
-use mathlib.Core.Path.{_≡_, sym, ap, _∙_}
+use mathlib.Core.Path.{sym, ap, _∙_}
 use Rattle.lineup.specs.Pairs.{capped}
 use Rattle.lineup.proofs.Pairing.{length-joint}
 use Rattle.lineup.proofs.pair.PairRoll.capacity.Needs as need

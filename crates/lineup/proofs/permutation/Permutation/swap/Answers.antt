@@ -1,4 +1,3 @@
-use mathlib.Core.Path.{_≡_, sym}
 use native.Mathlib.Omega.{arith}
 use lib.ListN.{length-set}
 use Rattle.lineup.specs.Heaps.{Exchanged}
