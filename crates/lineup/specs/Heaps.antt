@@ -1,4 +1,5 @@
 -- A binary heap: what stands at each position, and in which sequence.
+-- Only the heap's own functions cite these; what a heap means to others is the list of its keys.
 use mathlib.Core.Path.{_≡_}
 use mathlib.Core.List.{List}
 use mathlib.Core.Bool.{cond}

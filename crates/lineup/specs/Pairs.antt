@@ -1,4 +1,4 @@
--- What a pair of two line-ups means.
+-- What a pair of two line-ups means: `joint`. The rest serves the pair's own functions.
 use mathlib.Core.Path.{_≡_}
 use mathlib.Core.Bool.{cond}
 use mathlib.Core.List.{List, _++_}

@@ -1,4 +1,4 @@
-// The heap: forty-eight places; those with a key stand in an indexed binary heap.
+// The heap: its places with a key stand in an indexed binary heap, the front at its root.
 ghost use mathlib.Core.Path.{_≡_};
 ghost use mathlib.Core.Bool.{true, false};
 ghost use Prim.Native.Nat.{_<_, _≤_};

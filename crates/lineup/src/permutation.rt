@@ -8,7 +8,8 @@ ghost use Rattle.lineup.specs.Heaps.{Inside, Undone, Exchanged, swapAt};
 // How many places a heap has.
 pub(crate) const PLACES: usize = 48;
 
-// Every place stands at one position: `places` has the place at each position, `positions` the position of each place.
+// Every place stands at one position: `places` has the place at each position, `positions` the position of each place,
+// so that each of the two leads back to where the other leads from.
 #[derive(Drop)]
 pub(crate) struct Permutation {
     pub(crate) places: [usize; PLACES],

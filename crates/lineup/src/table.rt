@@ -1,4 +1,4 @@
-// The table: sixteen places, each with its key or none, searched from the start.
+// The table: a key or none for each place, searched from the start.
 ghost use mathlib.Core.Path.{_≡_};
 ghost use lib.ListN.{length};
 ghost use Rattle.lineup.specs.Rolls.{tablePlaces, noKeys};
