@@ -19,13 +19,13 @@ abbrev pub keyIn : ℕ → ℕ
 keyIn n = cond (ltb (n % 50) 49) (n % 50) (2 ^ 64 - 1)
 
 -- a call of a kind from 0 to 255
-abbrev pub stepAt : ℕ → ℕ → ℕ → Step
-stepAt kind p k =
+abbrev pub stepOfKind : ℕ → ℕ → ℕ → Step
+stepOfKind kind p k =
     cond (ltb kind 128) (Put p k) (cond (ltb kind 192) (TakeOut p) (cond (ltb kind 224) (KeyOf p) (cond (ltb kind 254) Front Clear)))
 
 -- the call that a drawn number stands for
 abbrev pub stepOf : ℕ → Step
-stepOf n = stepAt (n / 2 ^ 56) (placeIn (n / 2 ^ 16)) (keyIn (n / 2 ^ 32))
+stepOf n = stepOfKind (n / 2 ^ 56) (placeIn (n / 2 ^ 16)) (keyIn (n / 2 ^ 32))
 
 -- so many calls, drawn from a seed
 abbrev pub stepsFrom : ℕ → ℕ → List Step
