@@ -60,8 +60,8 @@ module _ (n : ℕ) (some : 0 < n) (small : n ≤ largest) where
 
   module _ (out : List ℕ) (room : longest ≤ length out) where
     -- the digits put in front of the memory, and then the check digit behind them
-    pub writes-code : (part written : List ℕ) (d : ℕ) → part ≡ decimal n → written ≡ part → d ≡ 48 + check_digit (digits_in part) → set (written ++ drop (length part - 0) out) (length part) d ≡ code_of n ++ drop (length (code_of n)) out
-    writes-code part written d p w e =
+    pub writes_code : (part written : List ℕ) (d : ℕ) → part ≡ decimal n → written ≡ part → d ≡ 48 + check_digit (digits_in part) → set (written ++ drop (length part - 0) out) (length part) d ≡ code_of n ++ drop (length (code_of n)) out
+    writes_code part written d p w e =
         let short = digits_short in
         let behind = drop_more out (length (decimal n)) 0 (omega arith) in
         rw (e, w, p, sub-zero)
@@ -72,8 +72,8 @@ module _ (n : ℕ) (some : 0 < n) (small : n ≤ largest) where
         ∙ sym (append_assoc (decimal n) (check_byte n ∷ []) (drop (length (code_of n)) out))
         )
 
-    pub reads-back : reading (take (length (decimal n) + 1) (code_of n ++ drop (length (code_of n)) out)) ≡ Ok n
-    reads-back = ap reading (take_at (code_of n) _ (length (decimal n) + 1) (length_code n)) ∙ code_reads
+    pub reads_back : reading (take (length (decimal n) + 1) (code_of n ++ drop (length (code_of n)) out)) ≡ Ok n
+    reads_back = ap reading (take_at (code_of n) _ (length (decimal n) + 1) (length_code n)) ∙ code_reads
 
 -- only a number that has a code is made
 pub on_made : (n k : ℕ) (out : List ℕ) → Ok k ≡ making n out → coded n ≡ true

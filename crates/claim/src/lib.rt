@@ -1,6 +1,8 @@
 // Claim codes: a session number in decimal, then its check digit, as ASCII digits.
 // A session is one customer's phone at a station, from linking to unlinking; sessions are numbered from 1 on.
 // A customer shows the code to collect an envelope; staff make codes and read them back.
+#![tactic(auto)]
+
 ghost use Rattle.std.specs.Prelude.{◌≡◌, ◌<◌, ◌≤◌, true, ◌++◌, length, take, drop, IfOk, if◌then◌else◌, Some, None, Ok, OnOk};
 ghost use Rattle.claim.specs.Code.{largest, longest, code_of, making, memory, number_in, well_formed, checked, reading};
 ghost use Rattle.claim.specs.Laws.{CodeOf, Guarded, WorkedExamples};

@@ -1,4 +1,6 @@
 // The claim-code desk on standard input: `make NUMBER` or `read CODE` on each line, and a line of reply for each.
+#![tactic(auto)]
+
 use std::io::{BufRead, BufReader};
 
 // Answers each line of the input.

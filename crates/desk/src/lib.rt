@@ -1,4 +1,6 @@
 // The claim-code desk: each line of input asks for a claim code or for the session of one, and gets one line of reply.
+#![tactic(auto)]
+
 ghost use Rattle.std.specs.Prelude.{◌≡◌};
 ghost use Rattle.desk.specs.Requests.{plainly};
 ghost use Rattle.desk.specs.Replies.{said, replied, make_outcome, read_outcome, answer_to, reply_to};

@@ -33,8 +33,8 @@ module _ (ks : List (Option ℕ)) (os ss : List ℕ) (n : ℕ) (wide : length ks
       (cases_lt q heap_places)
 
   module _ (inside : Inside os) (back : Undone os ss) (forth : Undone ss os) (heap : IsHeap (rank_at ks os) n) where
-    root-front : 0 < n → IsFront ks (Some (get_or os 0 0))
-    root-front some =
+    root_front : 0 < n → IsFront ks (Some (get_or os 0 0))
+    root_front some =
         let p = get_or os 0 0 in
         let lp : p < heap_places = inside 0 (omega arith) in
         let sp : get_or ss p 0 ≡ 0 = back 0 (omega arith) in
@@ -51,7 +51,7 @@ module _ (ks : List (Option ℕ)) (os ss : List ℕ) (n : ℕ) (wide : length ks
               (omega arith, λ l. omega arith),
         )
 
-    pub root-is-front : root_of os n ≡ front_of ks
-    root-is-front =
+    pub root_is_front : root_of os n ≡ front_of ks
+    root_is_front =
         front_is ks (root_of os n)
-        (cond_both (eqb n 0) _ _ (IsFront ks) (λ t. no_front (eqb-true n 0 t)) (λ t. root-front (let z = eqb-false n 0 t in omega arith)))
+        (cond_both (eqb n 0) _ _ (IsFront ks) (λ t. no_front (eqb-true n 0 t)) (λ t. root_front (let z = eqb-false n 0 t in omega arith)))

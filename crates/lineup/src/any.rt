@@ -8,7 +8,7 @@ use crate::roll::{LineUp, Roll};
 
 // Takes every place out.
 pub fn clear<R: Roll>(roll: &mut R)
-    ensures no_key_is_left { keys roll.new ≡ no_keys (length (keys roll.old)) }
+    ensures no_key_is_left { R.keys roll.new ≡ no_keys (length (R.keys roll.old)) }
 {
     for place in 0..roll.capacity() {
         let _ = roll.take_out(place);

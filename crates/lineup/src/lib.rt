@@ -1,6 +1,8 @@
 // Rolls and line-ups: places with keys, and which of them is in front.
 // A roll has a fixed number of places, numbered from 0; each place has one key or none.
 // A line-up is a roll that also tells which place is in front: the one with the least key.
+#![tactic(auto)]
+
 mod any;
 mod entry;
 mod heap;

@@ -1,4 +1,6 @@
 // Drives every kind of line-up by the same list of calls, and compares each with a plain scan of as many places.
+#![tactic(auto)]
+
 use lineup::{Heap, LineUp, Pair, Roll, Table};
 use trial::{Scan, Step, Tally, compare, draw_steps};
 

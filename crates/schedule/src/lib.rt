@@ -1,6 +1,8 @@
 // The rules of the hub: how long an order is and what it costs its session, what a hub can be asked, what it answers and
 // why it refuses. What the hub does with a call is written in specs/ as a plain machine, and what may be relied on over
 // whole runs as laws of that machine; both are over natural numbers and lists and run no code.
+#![tactic(auto)]
+
 mod call;
 mod format;
 //mod laws;

@@ -1,4 +1,6 @@
 // Line-ups tried side by side: a list of calls is made of two line-ups, and their answers are compared.
+#![tactic(auto)]
+
 mod draw;
 mod scan;
 mod side_by_side;

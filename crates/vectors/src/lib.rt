@@ -1,4 +1,6 @@
 // Outside vectors and edge cases: examples with their expected results, run through the public calls.
+#![tactic(auto)]
+
 #[cfg(test)]
 mod claim_codes;
 #[cfg(test)]

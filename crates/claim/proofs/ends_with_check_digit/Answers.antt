@@ -5,8 +5,8 @@ use Rattle.claim.proofs.Reading.{Accepted, tested, digits_take, only_codes, last
 use Rattle.claim.proofs.Changed.{guarded}
 use Rattle.claim.proofs.ends_with_check_digit.Goals as goal
 
-pub check-digit-requires : goal.check-digit-requires
-check-digit-requires c =
+pub check_digit-requires : goal.check_digit-requires
+check_digit-requires c =
     let code = c.args.code.now in
     let good = tested code c.requires in
     (digits_take code (length code - 1) good.digits, simp length-take (omega (arith, good.most)))
@@ -14,11 +14,11 @@ check-digit-requires c =
 pub returns : goal.returns
 returns c =
     let code = c.args.code.now in
-    let digit = c.check-digit.ensures.is-the-check-digit in
-    let whole : eqb (last_of code) c.check-digit.result ≡ true → Accepted code (number_in code) =
-    λ same. record { good = tested code c.requires; right = eqb-true (last_of code) c.check-digit.result same ∙ digit; number = refl } in
+    let digit = c.check_digit.ensures.is_the_check_digit in
+    let whole : eqb (last_of code) c.check_digit.result ≡ true → Accepted code (number_in code) =
+    λ same. record { good = tested code c.requires; right = eqb-true (last_of code) c.check_digit.result same ∙ digit; number = refl } in
     record {
       tells = ap (eqb (last_of code)) digit;
-      is-the-code = λ same. only_codes code (number_in code) (whole same);
+      is_the_code = λ same. only_codes code (number_in code) (whole same);
       guards = λ same. guarded code (number_in code) (whole same);
     }

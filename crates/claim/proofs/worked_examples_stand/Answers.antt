@@ -4,4 +4,4 @@ use Rattle.claim.proofs.worked_examples_stand.Goals as goal
 
 pub returns : goal.returns
 unfolding digits
-returns c = record { worked-examples = refl }
+returns c = record { worked_examples = refl }

@@ -4,8 +4,8 @@ use Rattle.claim.specs.Code.{digits_in, value_after}
 use Rattle.claim.proofs.Numbers.{digit_byte, cut_before}
 use Rattle.claim.proofs.digits.capped_value.Goals as goal
 
-pub overflow-sub-digit : goal.overflow-sub-digit
-overflow-sub-digit c = (digit_byte c.args.digits.now c.loop-digit.digit-index c.requires (omega arith)).0
+pub overflow_sub-digit : goal.overflow_sub-digit
+overflow_sub-digit c = (digit_byte c.args.digits.now c.loop-digit.digit-index c.requires (omega arith)).0
 
 pub loop-digit-preserved : goal.loop-digit-preserved
 loop-digit-preserved c =
@@ -14,7 +14,7 @@ loop-digit-preserved c =
     let n = c.loop-digit.n in
     let rest = digits_in (drop (i + 1) ds) in
     let read = at_drop_more (λ l. min (2 ^ 64 - 1) (value_after n (digits_in l))) ds i 0 c.loop-digit-test.true in
-    let step : c.saturating-add-n.result ≡ min (10 * n + (get_or ds i 0 - 48)) (2 ^ 64 - 1) = omega arith in (
+    let step : c.saturating_add-n.result ≡ min (10 * n + (get_or ds i 0 - 48)) (2 ^ 64 - 1) = omega arith in (
       ap (λ k. min (2 ^ 64 - 1) (value_after k rest)) step ∙ cut_before (2 ^ 64 - 1) (10 * n + (get_or ds i 0 - 48)) rest ∙ sym read ∙ c.loop-digit.invariant.0,
       omega arith,
     )

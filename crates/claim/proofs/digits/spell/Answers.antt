@@ -20,8 +20,8 @@ loop-n-init c =
     let none : drop widest c.args.text.now ≡ [] = drop_all widest c.args.text.now (omega arith) in
     (omega arith, length-digits_of-le 10 widest c.args.number (omega arith) (omega arith), c.told-text, rw (none, append-nil))
 
-pub overflow-sub-at : goal.overflow-sub-at
-overflow-sub-at c = omega (arith, length-digits_of_step 10 c.loop-n.n (omega arith) (omega arith))
+pub overflow_sub-at : goal.overflow_sub-at
+overflow_sub-at c = omega (arith, length-digits_of_step 10 c.loop-n.n (omega arith) (omega arith))
 
 pub loop-n-preserved : goal.loop-n-preserved
 loop-n-preserved c =
@@ -38,4 +38,4 @@ returns c =
     let done : c.loop-n.n ≡ 0 = omega arith in
     let all : text ≡ bytes_of (digits_of 10 c.args.number) = subst (λ m. bytes_of (digits_of 10 m) ++ text ≡ bytes_of (digits_of 10 c.args.number)) done c.loop-n.invariant.3 in
     let spelled : text ≡ decimal c.args.number = all ∙ sym (decimal-digits_of c.args.number (omega arith) (omega arith)) in
-    record { fits = omega (arith, simp length-drop at (ap length spelled)); writes-decimal = spelled }
+    record { fits = omega (arith, simp length-drop at (ap length spelled)); writes_decimal = spelled }

@@ -7,6 +7,6 @@ use Rattle.desk.proofs.words.reads_as.Goals as goal
 pub returns : goal.returns
 returns c =
     let word = c.args.word.now in
-    let bytes = c.as-bytes.result.now in
+    let bytes = c.as_bytes.result.now in
     let same = same_from_decides c.eq.result (bytes_eq word bytes) (slice_eq-Decides Decides-eqb word bytes c.eq.result c.eq.ensures) (bytes_eq-Decides word bytes) in
-    record { compares = same ∙ ap (bytes_eq word) c.as-bytes.ensures.value }
+    record { compares = same ∙ ap (bytes_eq word) c.as_bytes.ensures.value }

@@ -10,4 +10,4 @@ all_none ks n e h =
 
 pub returns : goal.returns
 returns g c =
-    record { no-key-is-left = all_none (g.R.Roll.keys c.loop-place.roll) _ c.loop-place.invariant.0 (λ k l. c.loop-place.invariant.1 k (omega arith)) }
+    record { no_key_is_left = all_none (g.R.Roll.keys c.loop-place.roll) _ c.loop-place.invariant.0 (λ k l. c.loop-place.invariant.1 k (omega arith)) }

@@ -14,12 +14,12 @@ loop-child-preserved c =
     let d = c.in-Some.child in
     let n = c.args.len in
     let inv = c.loop-child.invariant in
-    let least = c.in-Some.ensures.answers-the-least in
+    let least = c.in-Some.ensures.answers_the_least in
     let x = c.swap.ensures.exchanges in
     let f = rank_at ks o.places in
     let g = rank_at ks p.places in
     let s = ranks_swapped ks o.places p.places i d x.0 in
-    let less = ltb-true (f d) (f i) (sym c.before-at.ensures.compares-ranks ∙ c.if-not-before-at.false) in
+    let less = ltb-true (f d) (f i) (sym c.before_at.ensures.compares_ranks ∙ c.if-not-before_at.false) in
     let inside = least.1 in
     let keeps = exchanged_same_first o.places o.positions p.places p.positions o.placed o.back i d (omega arith) (omega arith) x n inv.0 (omega arith) in (
       inside,

@@ -17,7 +17,7 @@ loop-i-preserved c =
     let f = rank_at ks o.places in
     let g = rank_at ks p.places in
     let s = ranks_swapped ks o.places p.places i (parent i) x.0 in
-    let less = ltb-true (f i) (f (parent i)) (sym c.before-at.ensures.compares-ranks ∙ c.if-not-before-at.false) in
+    let less = ltb-true (f i) (f (parent i)) (sym c.before_at.ensures.compares_ranks ∙ c.if-not-before_at.false) in
     let keeps = exchanged_same_first o.places o.positions p.places p.positions o.placed o.back i (parent i) (omega arith) (omega arith) x n inv.0 (omega arith) in (
       omega arith,
       λ q l. keeps q l ∙ inv.1 q l,

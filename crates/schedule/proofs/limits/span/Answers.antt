@@ -6,11 +6,11 @@ use Rattle.schedule.proofs.limits.span.Goals as goal
 pub returns-then-share-eq0 : goal.returns-then-share-eq0
 returns-then-share-eq0 c =
     let none : c.args.share ≡ 0 = omega arith in
-    record { is-the-span = rw none (sym (span_of_none c.args.len)); covers-the-length = λ l. absurd (omega arith); has-no-tick-too-many = λ l. absurd (omega arith) }
+    record { is_the_span = rw none (sym (span_of_none c.args.len)); covers_the_length = λ l. absurd (omega arith); has_no_tick_too_many = λ l. absurd (omega arith) }
 
 pub returns : goal.returns
 returns c =
     let some : 0 < c.args.share = omega arith in
-    let covers : c.args.len * unit ≤ c.args.share * c.div-ceil.result = omega arith in
-    let tight : c.args.share * c.div-ceil.result < c.args.len * unit + c.args.share = omega arith in
-    record { is-the-span = span_is c.args.len c.args.share c.div-ceil.result some covers tight; covers-the-length = λ _. covers; has-no-tick-too-many = λ _. tight }
+    let covers : c.args.len * unit ≤ c.args.share * c.div_ceil.result = omega arith in
+    let tight : c.args.share * c.div_ceil.result < c.args.len * unit + c.args.share = omega arith in
+    record { is_the_span = span_is c.args.len c.args.share c.div_ceil.result some covers tight; covers_the_length = λ _. covers; has_no_tick_too_many = λ _. tight }

@@ -3,8 +3,8 @@ use Rattle.trial.specs.Draws.{step_of, steps_from}
 use Rattle.trial.proofs.Drawing.{draw_step, made_not}
 use Rattle.trial.proofs.draw.draw_steps.Goals as goal
 
-pub returns-in-err-push : goal.returns-in-err-push
-returns-in-err-push c = record { draws-from-the-seed = made_not c.from-residual.result _ c.from-residual.ensures.0 }
+pub returns-in_err-push : goal.returns-in_err-push
+returns-in_err-push c = record { draws_from_the_seed = made_not c.from_residual.result _ c.from_residual.ensures.0 }
 
 pub loop-preserved : goal.loop-preserved
 loop-preserved c =
@@ -12,7 +12,7 @@ loop-preserved c =
     let count = c.args.count in
     let i = c.loop.counter in
     ap (λ l. l ++ steps_from c.draw-state.result (count - (i + 1)))
-    (c.in-ok-push.ensures.items ∙ ap (λ s. items ++ s ∷ []) c.step-of.ensures.is-its-step)
+    (c.in_ok-push.ensures.items ∙ ap (λ s. items ++ s ∷ []) c.step_of.ensures.is_its_step)
     ∙ ap (λ n. (items ++ step_of n ∷ []) ++ steps_from n (count - (i + 1))) c.draw-state.ensures.draws
     ∙ draw_step items c.loop.state count i c.loop-test.true
     ∙ c.loop.invariant

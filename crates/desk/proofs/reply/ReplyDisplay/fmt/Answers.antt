@@ -8,7 +8,7 @@ use Rattle.desk.proofs.reply.ReplyDisplay.fmt.Goals as goal
 pub returns-in-NotMade-clause-writes : goal.returns-in-NotMade-clause-writes
 returns-in-NotMade-clause-writes g c plain ok =
     let typed = c.args.self.now.typed.now in
-    let words = refusal_words c.in-NotMade.why _ _ _ _ c.number-number.ensures.is-its-number c.reason-for-reason.ensures.in_words number_demand_lem in
+    let words = refusal_words c.in-NotMade.why _ _ _ _ c.number-number.ensures.is_its_number c.reason_for-reason.ensures.in_words number_demand_lem in
     subst (λ l. HasWritten g.W.Write.write_str_gives c.args.f.now l c.write-in-NotMade.new.self)
     (ap (λ l. codes "session " ++ (typed ++ l)) words ∙ ap (λ o. shown_by typed (said o)) (sym c.in-NotMade.is))
     (c.write-in-NotMade.ensures.writes plain ok)
@@ -16,7 +16,7 @@ returns-in-NotMade-clause-writes g c plain ok =
 pub returns-in-NotFound-clause-writes : goal.returns-in-NotFound-clause-writes
 returns-in-NotFound-clause-writes g c plain ok =
     let typed = c.args.self.now.typed.now in
-    let words = refusal_words c.in-NotFound.why _ _ _ _ c.number-number-in-NotFound.ensures.is-its-number c.reason-for-reason-in-NotFound.ensures.in_words code_demand_lem in
+    let words = refusal_words c.in-NotFound.why _ _ _ _ c.number-number_in-NotFound.ensures.is_its_number c.reason_for-reason-in-NotFound.ensures.in_words code_demand_lem in
     subst (λ l. HasWritten g.W.Write.write_str_gives c.args.f.now l c.write-in-NotFound.new.self)
     (ap (λ l. codes "claim code " ++ (typed ++ l)) words ∙ ap (λ o. shown_by typed (said o)) (sym c.in-NotFound.is))
     (c.write-in-NotFound.ensures.writes plain ok)

@@ -6,13 +6,13 @@ use Rattle.lineup.proofs.heap.HeapRoll.take_out.Goals as goal
 pub returns-then-place-ge-PLACES : goal.returns-then-place-ge-PLACES
 returns-then-place-ge-PLACES c =
     record {
-      answers-the-key = sym (get_or_past c.args.self.now.keys c.args.place _ (omega arith));
-      removes-that-key-only = sym (set_past _ _ _ (omega arith));
+      answers_the_key = sym (get_or_past c.args.self.now.keys c.args.place _ (omega arith));
+      removes_that_key_only = sym (set_past _ _ _ (omega arith));
     }
 
-pub returns-else-is-some : goal.returns-else-is-some
-returns-else-is-some c =
+pub returns-else-is_some : goal.returns-else-is_some
+returns-else-is_some c =
     record {
-      answers-the-key = refl;
-      removes-that-key-only = sym (set_none c.args.self.now.keys c.args.place (sym c.is-some.ensures ∙ c.if-is-some.false));
+      answers_the_key = refl;
+      removes_that_key_only = sym (set_none c.args.self.now.keys c.args.place (sym c.is_some.ensures ∙ c.if-is_some.false));
     }

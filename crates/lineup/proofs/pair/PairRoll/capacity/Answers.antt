@@ -9,8 +9,8 @@ returns g c =
     let ys = g.B.Roll.keys c.args.self.now.second in
     let few = (g.met.A.Roll.sized c.args.self.now.first).1 in
     record {
-      counts-the-places = c.capped-sum.ensures.is-capped
-          ∙ ap (λ m. capped m c.capacity-2.result) c.capacity.ensures.counts-the-places
-          ∙ ap (capped _) c.capacity-2.ensures.counts-the-places
+      counts_the_places = c.capped_sum.ensures.is_capped
+          ∙ ap (λ m. capped m c.capacity-2.result) c.capacity.ensures.counts_the_places
+          ∙ ap (capped _) c.capacity-2.ensures.counts_the_places
           ∙ sym (length_joint xs ys few);
     }

@@ -3,8 +3,8 @@ use Rattle.lineup.specs.Heaps.{Exchanged}
 use Rattle.lineup.proofs.Permutations.{swapped_exchanges, exchanged_places_inside, exchanged_positions_inside, exchanged_back, exchanged_forth}
 use Rattle.lineup.proofs.permutation.Permutation.swap.Goals as goal
 
-pub invariant-of-self : goal.invariant-of-self
-invariant-of-self c =
+pub invariant_of-self : goal.invariant_of-self
+invariant_of-self c =
     let o = c.args.self.now in
     let a = c.args.a in
     let b = c.args.b in
@@ -12,9 +12,9 @@ invariant-of-self c =
     let lb = c.requires.1 in
     let ia = o.placed a la in
     let ib = o.placed b lb in
-    let places = c.swap-both.ensures.swaps-the-places in
-    let positions = c.swap-both.ensures.swaps-their-positions in
-    let x : Exchanged o.places o.positions c.swap-both.new.places c.swap-both.new.positions a b =
+    let places = c.swap_both.ensures.swaps_the_places in
+    let positions = c.swap_both.ensures.swaps_their_positions in
+    let x : Exchanged o.places o.positions c.swap_both.new.places c.swap_both.new.positions a b =
     rw (places, positions) (swapped_exchanges o.places o.positions a b (omega arith) (omega arith) (omega arith) (omega arith)) in (
       rw places (simp length-set o.long),
       (

@@ -7,5 +7,5 @@ use Rattle.lineup.proofs.table.TableLineUp.front.Goals as goal
 pub returns : goal.returns
 returns c =
     record {
-      answers-the-front = c.place-of.ensures.answers-the-place ∙ ap place_of c.front-below.ensures.answers-their-front ∙ ap front_of (take_all table_places c.args.self.now.keys (omega arith));
+      answers_the_front = c.place_of.ensures.answers_the_place ∙ ap place_of c.front_below.ensures.answers_their_front ∙ ap front_of (take_all table_places c.args.self.now.keys (omega arith));
     }

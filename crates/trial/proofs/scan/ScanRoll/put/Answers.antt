@@ -4,4 +4,4 @@ use Rattle.trial.proofs.scan.ScanRoll.put.Goals as goal
 
 pub returns-then-place-len : goal.returns-then-place-len
 returns-then-place-len c =
-    record { refuses-places-beyond = search rules; sets-that-key-only = sym (set_past _ _ _ (omega arith)) }
+    record { refuses_places_beyond = search rules; sets_that_key_only = sym (set_past _ _ _ (omega arith)) }

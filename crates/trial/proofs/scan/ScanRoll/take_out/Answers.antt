@@ -5,6 +5,6 @@ use Rattle.trial.proofs.scan.ScanRoll.take_out.Goals as goal
 pub returns-then-place-len : goal.returns-then-place-len
 returns-then-place-len c =
     record {
-      answers-the-key = sym (get_or_past (vec_items c.args.self.now.keys) c.args.place _ (omega arith));
-      removes-that-key-only = sym (set_past _ _ _ (omega arith));
+      answers_the_key = sym (get_or_past (vec_items c.args.self.now.keys) c.args.place _ (omega arith));
+      removes_that_key_only = sym (set_past _ _ _ (omega arith));
     }
