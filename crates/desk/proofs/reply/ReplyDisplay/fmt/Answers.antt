@@ -16,7 +16,7 @@ returns-in-NotMade-clause-writes g c plain ok =
 pub returns-in-NotFound-clause-writes : goal.returns-in-NotFound-clause-writes
 returns-in-NotFound-clause-writes g c plain ok =
     let typed = c.args.self.now.typed.now in
-    let words = refusal_words c.in-NotFound.why _ _ _ _ c.number-number_in-NotFound.ensures.is_its_number c.reason_for-reason-in-NotFound.ensures.in_words code_demand_lem in
+    let words = refusal_words c.in-NotFound.why _ _ _ _ c.number-number-in-NotFound.ensures.is_its_number c.reason_for-reason-in-NotFound.ensures.in_words code_demand_lem in
     subst (λ l. HasWritten g.W.Write.write_str_gives c.args.f.now l c.write-in-NotFound.new.self)
     (ap (λ l. codes "claim code " ++ (typed ++ l)) words ∙ ap (λ o. shown_by typed (said o)) (sym c.in-NotFound.is))
     (c.write-in-NotFound.ensures.writes plain ok)

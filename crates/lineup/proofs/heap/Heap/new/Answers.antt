@@ -4,4 +4,4 @@ use Rattle.lineup.proofs.heap.Heap.new.Goals as goal
 
 pub invariant_of-result : goal.invariant_of-result
 invariant_of-result c =
-    (refl, (omega arith, (new_members c.new.result.positions, (λ j p l. absurd (omega arith), tt))))
+    record { wide = refl; few = omega arith; members = new_members c.new.result.positions; heaped = λ j p l. absurd (omega arith) }

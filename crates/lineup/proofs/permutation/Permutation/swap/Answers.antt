@@ -15,22 +15,12 @@ invariant_of-self c =
     let places = c.swap_both.ensures.swaps_the_places in
     let positions = c.swap_both.ensures.swaps_their_positions in
     let x : Exchanged o.places o.positions c.swap_both.new.places c.swap_both.new.positions a b =
-    rw (places, positions) (swapped_exchanges o.places o.positions a b (omega arith) (omega arith) (omega arith) (omega arith)) in (
-      rw places (simp length-set o.long),
-      (
-        rw positions (simp length-set o.wide),
-        (
-          exchanged_places_inside o.places o.positions _ _ o.placed o.back a b la lb x,
-          (
-            exchanged_positions_inside o.places o.positions _ _ o.placed o.back a b la lb x o.positioned,
-            (
-              exchanged_back o.places o.positions _ _ o.placed o.back a b la lb x,
-              (
-                exchanged_forth o.places o.positions _ _ o.placed o.back a b la lb x o.forth,
-                tt,
-              ),
-            ),
-          ),
-        ),
-      ),
-    )
+    rw (places, positions) (swapped_exchanges o.places o.positions a b (omega arith) (omega arith) (omega arith) (omega arith)) in
+    record {
+      long = rw places (simp length-set o.long);
+      wide = rw positions (simp length-set o.wide);
+      placed = exchanged_places_inside o.places o.positions _ _ o.placed o.back a b la lb x;
+      positioned = exchanged_positions_inside o.places o.positions _ _ o.placed o.back a b la lb x o.positioned;
+      back = exchanged_back o.places o.positions _ _ o.placed o.back a b la lb x;
+      forth = exchanged_forth o.places o.positions _ _ o.placed o.back a b la lb x o.forth;
+    }
