@@ -5,7 +5,7 @@ use Rattle.std.proofs.lemmas.Bool.{both_ways, cases_lt, cond_both, eqb-true, eqb
 use Rattle.lineup.specs.Rolls.{heap_places, most_places, key_at, no_keys}
 use Rattle.lineup.specs.Front.{IsFront, front_of}
 use Rattle.lineup.specs.Heaps.{Inside, Undone, Members, IsHeap, rank, rank_at, root_of}
-use Rattle.lineup.specs.Fronts.{within, front_is}
+use Rattle.lineup.proofs.Fronts.{within, front_is}
 use Rattle.lineup.proofs.Sifts.{root_first}
 
 -- a key is there or not

@@ -1,3 +1,6 @@
+pub mod Fronts
 mod Heaped
+pub mod Joins
+mod Pairing
 mod Permutations
 mod Sifts

@@ -1,8 +1,8 @@
 // The heap: its places with a key stand in an indexed binary heap, the front at its root.
-ghost use Rattle.std.specs.Prelude.{◌≡◌, ◌<◌, ◌≤◌, true, false, length, is_some, Some, None, slice_set};
+ghost use Rattle.std.specs.Prelude.{◌≡◌, ◌<◌, ◌≤◌, true, false, length, is_some, Some, None, slice_set, refl};
 ghost use Rattle.lineup.specs.Rolls.{heap_places, key_at, no_keys};
 ghost use Rattle.lineup.specs.Heaps.{rank_at, IsHeap, Members, root_of};
-ghost use Rattle.std.proofs.Common.{rules, arith};
+ghost use Rattle.lineup.specs.Sizes.{as_many};
 
 use crate::keys::key_in;
 use crate::permutation::{PLACES, Permutation};
@@ -87,7 +87,7 @@ impl Heap {
 impl Roll for Heap {
     ghost keys = { λ h. h.keys };
 
-    ghost sized = { first_of (Prim.search rules, Prim.grind (arith, Self.row.coded.inj)) };
+    ghost sized = { λ h. as_many h.keys heap_places h.wide refl };
 
     fn capacity(&self) -> usize {
         PLACES

@@ -3,8 +3,7 @@ ghost use Rattle.std.specs.Prelude.{◌≡◌, length, take};
 ghost use Rattle.lineup.specs.Rolls.{no_keys};
 ghost use Rattle.lineup.specs.Front.{front_entry};
 ghost use Rattle.lineup.specs.Pairs.{joint, capped, side_of, StandsFor};
-ghost use Rattle.std.proofs.Common.{arith};
-ghost use Rattle.lineup.specs.Pairing.{length_joint};
+ghost use Rattle.lineup.specs.Sizes.{joint_sized};
 
 use crate::any::{clear, front_with_key};
 use crate::entry::{Entry, further, place_of, sooner};
@@ -97,12 +96,7 @@ impl<A: LineUp, B: LineUp> Pair<A, B> {
 impl<A: LineUp, B: LineUp> Roll for Pair<A, B> {
     ghost keys = { λ p. joint (A.Roll.keys p.first) (B.Roll.keys p.second) };
 
-    ghost sized = { λ x.
-        let a = A.Roll.sized x.first in
-        let some = a.0 in
-        let few = a.1 in
-        let e = length_joint (A.Roll.keys x.first) (B.Roll.keys x.second) few in
-        (omega arith, omega arith) };
+    ghost sized = { λ p. joint_sized (A.Roll.keys p.first) (B.Roll.keys p.second) (A.Roll.sized p.first) };
 
     fn capacity(&self) -> usize {
         capped_sum(self.first.capacity(), self.second.capacity())

@@ -1,7 +1,7 @@
 // The table: a key or none for each place, searched from the start.
-ghost use Rattle.std.specs.Prelude.{◌≡◌, length};
+ghost use Rattle.std.specs.Prelude.{◌≡◌, length, refl};
 ghost use Rattle.lineup.specs.Rolls.{table_places, no_keys};
-ghost use Rattle.std.proofs.Common.{rules, arith};
+ghost use Rattle.lineup.specs.Sizes.{as_many};
 
 use crate::entry::place_of;
 use crate::keys::key_in;
@@ -32,7 +32,7 @@ impl Table {
 impl Roll for Table {
     ghost keys = { λ t. t.keys };
 
-    ghost sized = { first_of (Prim.search rules, Prim.grind (arith, Self.row.coded.inj)) };
+    ghost sized = { λ t. as_many t.keys table_places t.wide refl };
 
     fn capacity(&self) -> usize {
         PLACES

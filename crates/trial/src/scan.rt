@@ -2,7 +2,6 @@
 ghost use Rattle.std.specs.Prelude.{◌≡◌, ◌≤◌, length, IfOk, vec_len};
 ghost use Rattle.lineup.specs.Rolls.{most_places, no_keys};
 ghost use Rattle.lineup.specs.Front.{entry_of, sooner_of};
-ghost use Rattle.std.proofs.Common.{rules, arith};
 
 use lineup::{Entry, LineUp, Roll, RollRefusal};
 use std::alloc::{AllocError, Global};
@@ -45,7 +44,7 @@ fn better(best: Option<Entry>, place: usize, key: Option<u64>) -> Option<Entry>
 impl Roll for Scan {
     ghost keys = { λ s. s.keys.items };
 
-    ghost sized = { first_of (Prim.search rules, Prim.grind (arith, Self.row.coded.inj)) };
+    ghost sized = { λ s. (s.some, s.few) };
 
     fn capacity(&self) -> usize {
         self.keys.len()

@@ -1,5 +1,5 @@
 use Rattle.std.proofs.Common.{◌∙◌}
-use Rattle.lineup.specs.Fronts.{entry_is}
+use Rattle.lineup.proofs.Fronts.{entry_is}
 use Rattle.lineup.proofs.any.entry_of_front.Goals as goal
 
 pub returns : goal.returns

@@ -1,5 +1,5 @@
 use Rattle.std.proofs.Common.{◌∙◌}
-use Rattle.lineup.specs.Fronts.{entry_none}
+use Rattle.lineup.proofs.Fronts.{entry_none}
 use Rattle.lineup.proofs.any.front_with_key.Goals as goal
 
 pub returns-in_err-place : goal.returns-in_err-place

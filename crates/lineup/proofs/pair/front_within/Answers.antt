@@ -1,5 +1,5 @@
 use Rattle.std.proofs.Common.{◌∙◌}
-use Rattle.lineup.specs.Fronts.{front_kept, front_none_kept}
+use Rattle.lineup.proofs.Fronts.{front_kept, front_none_kept}
 use Rattle.lineup.proofs.pair.front_within.Goals as goal
 
 pub returns-in_err-front : goal.returns-in_err-front

@@ -1,4 +1,4 @@
-use Rattle.lineup.specs.Fronts.{front_found, front_is}
+use Rattle.lineup.proofs.Fronts.{front_found, front_is}
 use Rattle.lineup.proofs.search.every_list_has_one_front.Goals as goal
 
 pub returns : goal.returns

@@ -1,5 +1,5 @@
 use Rattle.std.proofs.Common.{◌∙◌}
-use Rattle.lineup.specs.Joins.{search_step}
+use Rattle.lineup.proofs.Joins.{search_step}
 use Rattle.lineup.proofs.search.front_below.Goals as goal
 
 pub loop-place-preserved : goal.loop-place-preserved

@@ -1,4 +1,4 @@
-use Rattle.std.proofs.Common.{◌-◌, ◌<◌}
+use Rattle.std.proofs.Common.{◌<◌}
 use Rattle.lineup.specs.Heaps.{rank_at, ButUp, Across, SameFirst}
 use Rattle.lineup.proofs.sift.sift_up.Given as goal
 

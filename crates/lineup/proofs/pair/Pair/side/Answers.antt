@@ -1,6 +1,6 @@
 use Rattle.std.proofs.Common.{sym, ap, ◌∙◌, subst}
 use Rattle.lineup.specs.Pairs.{side_of, StandsFor}
-use Rattle.lineup.specs.Pairing.{stands_for}
+use Rattle.lineup.proofs.Pairing.{stands_for}
 use Rattle.lineup.proofs.pair.Pair.side.Goals as goal
 
 pub returns : goal.returns

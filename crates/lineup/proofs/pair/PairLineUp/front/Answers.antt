@@ -1,6 +1,6 @@
 use Rattle.std.proofs.Common.{ap, ◌∙◌}
 use Rattle.lineup.specs.Front.{place_of, sooner_of}
-use Rattle.lineup.specs.Pairing.{front_fits, pair_front}
+use Rattle.lineup.proofs.Pairing.{front_fits, pair_front}
 use Rattle.lineup.proofs.pair.PairLineUp.front.Goals as goal
 
 pub further-requires : goal.further-requires

@@ -1,6 +1,6 @@
 use Rattle.std.proofs.Common.{sym, ap, ◌∙◌}
 use Rattle.lineup.specs.Pairs.{capped}
-use Rattle.lineup.specs.Pairing.{length_joint}
+use Rattle.lineup.specs.Sizes.{length_joint}
 use Rattle.lineup.proofs.pair.PairRoll.capacity.Goals as goal
 
 pub returns : goal.returns

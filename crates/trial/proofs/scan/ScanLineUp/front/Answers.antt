@@ -1,7 +1,7 @@
 use Rattle.std.proofs.Common.{None, vec_items, sym, ap, ◌∙◌, arith}
 use Rattle.std.proofs.lemmas.List.{get_or_read, take_all}
 use Rattle.lineup.specs.Front.{entry_of, place_of, front_of}
-use Rattle.lineup.specs.Joins.{search_step}
+use Rattle.lineup.proofs.Joins.{search_step}
 use Rattle.trial.proofs.scan.ScanLineUp.front.Goals as goal
 
 pub loop-place-preserved : goal.loop-place-preserved
