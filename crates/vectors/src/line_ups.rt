@@ -17,110 +17,110 @@ fn heaps() -> Heaps {
 }
 
 // Among equal keys the lowest place is in front, in whatever sequence they were put.
-fn lowest_of_equals<L: LineUp>(rt: &impl Abort, line: &mut L) -> Result<(), Fail> {
+fn lowest_of_equals<L: LineUp>(rt: &impl Abort, kind: &str, line: &mut L) {
     for place in [9, 3, 15, 7, 12] {
-        assert_eq!(rt; line.put(place, 5), Ok(()));
+        assert_eq!(rt; line.put(place, 5), Ok(()), "{kind}");
     }
     for place in [3, 7, 9, 12, 15] {
-        assert_eq!(rt; line.front(), Some(place));
-        assert_eq!(rt; line.take_out(place), Some(5));
+        assert_eq!(rt; line.front(), Some(place), "{kind}");
+        assert_eq!(rt; line.take_out(place), Some(5), "{kind}");
     }
-    assert_eq!(rt; line.front(), None);
-    Ok(())
+    assert_eq!(rt; line.front(), None, "{kind}");
 }
 
 #[test]
-fn the_lowest_of_equals_is_in_front(rt: HostRuntime) -> Result<(), Fail> {
-    lowest_of_equals(&rt, &mut Table::new()).note("table")?;
-    lowest_of_equals(&rt, &mut Heap::new()).note("heap")?;
-    lowest_of_equals(&rt, &mut hall()).note("table and heap")?;
-    lowest_of_equals(&rt, &mut heaps()).note("two heaps")
+fn the_lowest_of_equals_is_in_front(rt: HostRuntime) {
+    lowest_of_equals(&rt, "table", &mut Table::new());
+    lowest_of_equals(&rt, "heap", &mut Heap::new());
+    lowest_of_equals(&rt, "table and heap", &mut hall());
+    lowest_of_equals(&rt, "two heaps", &mut heaps());
 }
 
 // Key 0 and the largest key are keys like any other.
-fn least_and_largest_key<L: LineUp>(rt: &impl Abort, line: &mut L) -> Result<(), Fail> {
-    assert_eq!(rt; line.put(4, u64::MAX), Ok(()));
-    assert_eq!(rt; line.front(), Some(4));
-    assert_eq!(rt; line.put(6, u64::MAX - 1), Ok(()));
-    assert_eq!(rt; line.front(), Some(6));
-    assert_eq!(rt; line.put(15, 0), Ok(()));
-    assert_eq!(rt; line.front(), Some(15));
-    assert_eq!(rt; line.key_of(15), Some(0));
-    assert_eq!(rt; line.key_of(4), Some(u64::MAX));
-    assert_eq!(rt; line.take_out(15), Some(0));
-    assert_eq!(rt; line.front(), Some(6));
-    Ok(())
+fn least_and_largest_key<L: LineUp>(rt: &impl Abort, kind: &str, line: &mut L) {
+    assert_eq!(rt; line.put(4, u64::MAX), Ok(()), "{kind}");
+    assert_eq!(rt; line.front(), Some(4), "{kind}");
+    assert_eq!(rt; line.put(6, u64::MAX - 1), Ok(()), "{kind}");
+    assert_eq!(rt; line.front(), Some(6), "{kind}");
+    assert_eq!(rt; line.put(15, 0), Ok(()), "{kind}");
+    assert_eq!(rt; line.front(), Some(15), "{kind}");
+    assert_eq!(rt; line.key_of(15), Some(0), "{kind}");
+    assert_eq!(rt; line.key_of(4), Some(u64::MAX), "{kind}");
+    assert_eq!(rt; line.take_out(15), Some(0), "{kind}");
+    assert_eq!(rt; line.front(), Some(6), "{kind}");
 }
 
 #[test]
-fn least_and_largest_keys_are_kept(rt: HostRuntime) -> Result<(), Fail> {
-    least_and_largest_key(&rt, &mut Table::new()).note("table")?;
-    least_and_largest_key(&rt, &mut Heap::new()).note("heap")?;
-    least_and_largest_key(&rt, &mut hall()).note("table and heap")?;
-    least_and_largest_key(&rt, &mut heaps()).note("two heaps")
+fn least_and_largest_keys_are_kept(rt: HostRuntime) {
+    least_and_largest_key(&rt, "table", &mut Table::new());
+    least_and_largest_key(&rt, "heap", &mut Heap::new());
+    least_and_largest_key(&rt, "table and heap", &mut hall());
+    least_and_largest_key(&rt, "two heaps", &mut heaps());
 }
 
 // A place with a key gets another, less or more, and moves to the front or away from it.
-fn replaced_keys<L: LineUp>(rt: &impl Abort, line: &mut L) -> Result<(), Fail> {
+fn replaced_keys<L: LineUp>(rt: &impl Abort, kind: &str, line: &mut L) {
     for place in 0..16 {
-        assert_eq!(rt; line.put(place, 100 + place as u64), Ok(()));
+        assert_eq!(rt; line.put(place, 100 + place as u64), Ok(()), "{kind}");
     }
-    assert_eq!(rt; line.put(13, 50), Ok(()));
-    assert_eq!(rt; line.front(), Some(13));
-    assert_eq!(rt; line.put(13, 500), Ok(()));
-    assert_eq!(rt; line.front(), Some(0));
-    assert_eq!(rt; line.put(0, 115), Ok(()));
-    assert_eq!(rt; line.front(), Some(1));
-    assert_eq!(rt; line.put(15, 101), Ok(()));
-    assert_eq!(rt; line.front(), Some(1));
-    assert_eq!(rt; line.key_of(15), Some(101));
-    assert_eq!(rt; line.key_of(13), Some(500));
-    Ok(())
+    assert_eq!(rt; line.put(13, 50), Ok(()), "{kind}");
+    assert_eq!(rt; line.front(), Some(13), "{kind}");
+    assert_eq!(rt; line.put(13, 500), Ok(()), "{kind}");
+    assert_eq!(rt; line.front(), Some(0), "{kind}");
+    assert_eq!(rt; line.put(0, 115), Ok(()), "{kind}");
+    assert_eq!(rt; line.front(), Some(1), "{kind}");
+    assert_eq!(rt; line.put(15, 101), Ok(()), "{kind}");
+    assert_eq!(rt; line.front(), Some(1), "{kind}");
+    assert_eq!(rt; line.key_of(15), Some(101), "{kind}");
+    assert_eq!(rt; line.key_of(13), Some(500), "{kind}");
 }
 
 #[test]
-fn a_newer_key_replaces_an_older(rt: HostRuntime) -> Result<(), Fail> {
-    replaced_keys(&rt, &mut Table::new()).note("table")?;
-    replaced_keys(&rt, &mut Heap::new()).note("heap")?;
-    replaced_keys(&rt, &mut hall()).note("table and heap")?;
-    replaced_keys(&rt, &mut heaps()).note("two heaps")
+fn a_newer_key_replaces_an_older(rt: HostRuntime) {
+    replaced_keys(&rt, "table", &mut Table::new());
+    replaced_keys(&rt, "heap", &mut Heap::new());
+    replaced_keys(&rt, "table and heap", &mut hall());
+    replaced_keys(&rt, "two heaps", &mut heaps());
 }
 
 // All places are filled, every third is taken out from wherever it stands, and the rest comes out by key and then place.
-fn drained<L: LineUp>(rt: &impl Abort, line: &mut L) -> Result<(), Fail> {
+fn drained<L: LineUp>(rt: &impl Abort, kind: &str, line: &mut L) {
     let end = line.capacity();
     for place in 0..end {
-        assert_eq!(rt; line.put(place, (place as u64 * 29) % 17), Ok(()));
+        assert_eq!(rt; line.put(place, (place as u64 * 29) % 17), Ok(()), "{kind}");
     }
     for place in 0..end {
         if place % 3 == 1 {
-            assert_eq!(rt; line.take_out(place), Some((place as u64 * 29) % 17));
+            assert_eq!(rt;
+                line.take_out(place),
+                Some((place as u64 * 29) % 17),
+                "{kind}"
+            );
         }
     }
     for key in 0..17 {
         for place in 0..end {
             if place % 3 != 1 && (place as u64 * 29) % 17 == key {
-                assert_eq!(rt; line.front(), Some(place));
-                assert_eq!(rt; line.take_out(place), Some(key));
+                assert_eq!(rt; line.front(), Some(place), "{kind}");
+                assert_eq!(rt; line.take_out(place), Some(key), "{kind}");
             }
         }
     }
-    assert_eq!(rt; line.front(), None);
-    Ok(())
+    assert_eq!(rt; line.front(), None, "{kind}");
 }
 
 #[test]
-fn what_is_left_comes_out_in_sequence(rt: HostRuntime) -> Result<(), Fail> {
-    drained(&rt, &mut Table::new()).note("table")?;
-    drained(&rt, &mut Heap::new()).note("heap")?;
-    drained(&rt, &mut hall()).note("table and heap")?;
-    drained(&rt, &mut heaps()).note("two heaps")
+fn what_is_left_comes_out_in_sequence(rt: HostRuntime) {
+    drained(&rt, "table", &mut Table::new());
+    drained(&rt, "heap", &mut Heap::new());
+    drained(&rt, "table and heap", &mut hall());
+    drained(&rt, "two heaps", &mut heaps());
 }
 
 // Places past the capacity, near and far: put is refused, and nothing changes.
-fn out_of_range<L: LineUp>(rt: &impl Abort, line: &mut L) -> Result<(), Fail> {
+fn out_of_range<L: LineUp>(rt: &impl Abort, kind: &str, line: &mut L) {
     let end = line.capacity();
-    assert_eq!(rt; line.put(end - 1, 7), Ok(()));
+    assert_eq!(rt; line.put(end - 1, 7), Ok(()), "{kind}");
     for place in [
         end,
         end + 1,
@@ -131,22 +131,21 @@ fn out_of_range<L: LineUp>(rt: &impl Abort, line: &mut L) -> Result<(), Fail> {
         usize::MAX - 1,
         usize::MAX,
     ] {
-        assert_eq!(rt; line.put(place, 1), Err(RollRefusal::NoPlace));
-        assert_eq!(rt; line.key_of(place), None);
-        assert_eq!(rt; line.take_out(place), None);
-        assert_eq!(rt; line.front(), Some(end - 1));
-        assert_eq!(rt; line.capacity(), end);
+        assert_eq!(rt; line.put(place, 1), Err(RollRefusal::NoPlace), "{kind}");
+        assert_eq!(rt; line.key_of(place), None, "{kind}");
+        assert_eq!(rt; line.take_out(place), None, "{kind}");
+        assert_eq!(rt; line.front(), Some(end - 1), "{kind}");
+        assert_eq!(rt; line.capacity(), end, "{kind}");
     }
-    assert_eq!(rt; line.key_of(end - 1), Some(7));
-    Ok(())
+    assert_eq!(rt; line.key_of(end - 1), Some(7), "{kind}");
 }
 
 #[test]
-fn places_out_of_range_are_refused(rt: HostRuntime) -> Result<(), Fail> {
-    out_of_range(&rt, &mut Table::new()).note("table")?;
-    out_of_range(&rt, &mut Heap::new()).note("heap")?;
-    out_of_range(&rt, &mut hall()).note("table and heap")?;
-    out_of_range(&rt, &mut heaps()).note("two heaps")
+fn places_out_of_range_are_refused(rt: HostRuntime) {
+    out_of_range(&rt, "table", &mut Table::new());
+    out_of_range(&rt, "heap", &mut Heap::new());
+    out_of_range(&rt, "table and heap", &mut hall());
+    out_of_range(&rt, "two heaps", &mut heaps());
 }
 
 #[test]
