@@ -1,6 +1,7 @@
 -- What a span is, for every share: the fewest whole ticks in which a printer of that share feeds the length.
-use Rattle.std.proofs.Common.{◌≡◌, ℕ, ◌+◌, ◌*◌, ◌<◌, ◌≤◌, ◌⊎◌, refl, inl, inr, mul-le-mul_left, arith}
+use Rattle.std.proofs.Common.{◌≡◌, ℕ, ◌+◌, ◌*◌, ◌/◌, ◌%◌, min, mul_comm, ◌<◌, ◌≤◌, ◌⊎◌, refl, inl, inr, mul-le-mul_left, arith}
 use Rattle.std.proofs.lemmas.Bool.{cases_lt}
+use Rattle.std.proofs.lemmas.Grind.{div_ceil_times}
 use Rattle.schedule.specs.Limits.{unit}
 use Rattle.schedule.specs.Orders.{span_of}
 
@@ -40,3 +41,7 @@ length_within_span len share l k =
       | inl q ↦ absurd (omega (arith, span_covers len share l, mul-le-mul_left share q, mul-le-mul_left len k))
       | inr q ↦ q
     ]
+
+-- rounding a quotient up covers what was divided, without a divisor too many
+pub ceil_covers : (n share q : ℕ) → 0 < share → q ≡ n / share + min 1 (n % share) → (n ≤ share * q) × (share * q < n + share)
+ceil_covers n share q l e = rw (mul_comm share q, e) (div_ceil_times n share l)

@@ -14,9 +14,10 @@ pub const FEEDS: [u16; 16] = [
 ];
 
 // The feed length of a format.
+#[tactic(auto, unfolding(crate::specs::Orders::feed_of))]
 pub fn feed_length(format: u8) -> Result<u16, Refusal>
     ensures is_the_feed_length { result ≡ unless (first_of ((no_format format, NoFormat) ∷ [])) (feed_of format) }
-    ensures is_in_range { IfOk result (λ n. (1 ≤ n) × (n ≤ 610)) }
+    ensures is_in_range { IfOk result (λ n. (51 ≤ n) × (n ≤ 610)) }
 {
     let format = format as usize;
     if format >= FEEDS.len() {

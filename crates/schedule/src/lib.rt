@@ -5,7 +5,6 @@
 
 mod call;
 mod format;
-//mod laws;
 mod limits;
 mod order;
 mod refusal;

@@ -1,6 +1,6 @@
 use Rattle.std.proofs.Common.{◌≡◌, ◌+◌, ◌*◌, ◌<◌, ◌≤◌, sym, arith}
 use Rattle.schedule.specs.Limits.{unit}
-use Rattle.schedule.proofs.Spans.{span_of_none, span_is}
+use Rattle.schedule.proofs.Spans.{span_of_none, span_is, ceil_covers}
 use Rattle.schedule.proofs.limits.span.Goals as goal
 
 pub returns-then-share-eq0 : goal.returns-then-share-eq0
@@ -11,6 +11,5 @@ returns-then-share-eq0 c =
 pub returns : goal.returns
 returns c =
     let some : 0 < c.args.share = omega arith in
-    let covers : c.args.len * unit ≤ c.args.share * c.div_ceil.result = omega arith in
-    let tight : c.args.share * c.div_ceil.result < c.args.len * unit + c.args.share = omega arith in
-    record { is_the_span = span_is c.args.len c.args.share c.div_ceil.result some covers tight; covers_the_length = λ _. covers; has_no_tick_too_many = λ _. tight }
+    let times = ceil_covers (c.args.len * unit) c.args.share c.div_ceil.result some c.div_ceil.ensures in
+    record { is_the_span = span_is c.args.len c.args.share c.div_ceil.result some times.0 times.1; covers_the_length = λ _. times.0; has_no_tick_too_many = λ _. times.1 }
