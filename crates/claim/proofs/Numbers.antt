@@ -10,7 +10,7 @@ use Rattle.claim.specs.Code.{digits_in, value_after, value_up_to}
 abbrev pub bytes_of : List ℕ → List ℕ
 bytes_of ds = map (λ d. 48 + d) ds
 
--- `allDigits` and `value_after` are what std calls the digits of a number and their value
+-- `all_ascii_digits` and `value_after` are what std calls the digits of a number and their value
 pub numerals : IsNumeralModel (λ ds. all_ascii_digits ds ≡ true) (λ ds. value_after 0 (digits_in ds))
 numerals = numerals_by_fold _ tells_all_ascii_digits (λ n ds. value_after n (digits_in ds)) (search rules)
 

@@ -33,8 +33,8 @@ fn counted() -> [usize; PLACES]
 
 // Swaps what stands at the positions a and b, and the positions of these two places.
 fn swap_both(places: &mut [usize; PLACES], positions: &mut [usize; PLACES], a: usize, b: usize)
-    requires a_in_bounds { (a < length places.old) × (b < length places.old) }
-    requires a_in_bounds_2 { (slice_index places.old a < length positions.old) × (slice_index places.old b < length positions.old) }
+    requires positions_in_range { (a < length places.old) × (b < length places.old) }
+    requires places_in_range { (slice_index places.old a < length positions.old) × (slice_index places.old b < length positions.old) }
     ensures swaps_the_places { places.new ≡ swap_at places.old a b }
     ensures swaps_their_positions { positions.new ≡ swap_at positions.old (slice_index places.old a) (slice_index places.old b) }
 {

@@ -25,7 +25,7 @@ fn before_at(order: &Permutation, keys: &[Option<u64>; PLACES], a: usize, b: usi
 
 // Moves what stands at `at` up to where it belongs.
 pub(crate) fn sift_up(order: &mut Permutation, keys: &[Option<u64>; PLACES], len: usize, at: usize)
-    requires at_lt_len { (at < len) × (len ≤ heap_places) }
+    requires in_the_heap { (at < len) × (len ≤ heap_places) }
     requires but_up { ButUp (rank_at keys.now order.old.places) len at }
     requires across { Across (rank_at keys.now order.old.places) len at }
     ensures keeps_the_members { SameFirst order.old.positions order.new.positions len }
@@ -70,7 +70,7 @@ pub(crate) fn sift_down(
     len: usize,
     at: usize,
 )
-    requires at_lt_len { (at < len) × (len ≤ heap_places) }
+    requires in_the_heap { (at < len) × (len ≤ heap_places) }
     requires but_down { ButDown (rank_at keys.now order.old.places) len at }
     requires across { Across (rank_at keys.now order.old.places) len at }
     ensures keeps_the_members { SameFirst order.old.positions order.new.positions len }
@@ -88,7 +88,7 @@ pub(crate) fn sift_down(
 
 // Moves what stands at `at` to where it belongs, up or down.
 pub(crate) fn settle(order: &mut Permutation, keys: &[Option<u64>; PLACES], len: usize, at: usize)
-    requires at_lt_len { (at < len) × (len ≤ heap_places) }
+    requires in_the_heap { (at < len) × (len ≤ heap_places) }
     requires but_around { ButAround (rank_at keys.now order.old.places) len at }
     requires across { Across (rank_at keys.now order.old.places) len at }
     ensures keeps_the_members { SameFirst order.old.positions order.new.positions len }
