@@ -57,6 +57,8 @@ for path in files('specs/**/*.antt', 'proofs/**/*.antt'):
                 name = m.group(1)
                 names[name] = CHOSEN.get(name, snake(name))
 names = {old: new for old, new in names.items() if old != new}
+if not set(names) - set(CHOSEN):
+    sys.exit('respell: nothing to turn: the names are in snake case already')
 
 TOKEN = re.compile(r"(?<![A-Za-z0-9_'-])" + WORD)
 

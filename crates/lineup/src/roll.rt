@@ -29,7 +29,7 @@ pub trait Roll {
         ensures answers_the_key { result ≡ key_at (keys self.old) place }
         ensures removes_that_key_only { keys self.new ≡ slice_set (keys self.old) place None };
 
-    // a capacity is 1 to 64
+    // a law, since it stands below the last function: a capacity is 1 to 64
     ghost sized: { (x : Self) → (1 ≤ length (keys x)) × (length (keys x) ≤ most_places) };
 }
 

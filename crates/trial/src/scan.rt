@@ -1,8 +1,8 @@
 // A plain scan: a line-up that is nothing but a list of keys, looked through from its start.
 ghost use Rattle.std.specs.Prelude.{◌≡◌, ◌≤◌, length, IfOk, vec_len};
-ghost use Rattle.std.proofs.Common.{subst};
 ghost use Rattle.lineup.specs.Rolls.{most_places, no_keys};
 ghost use Rattle.lineup.specs.Front.{entry_of, sooner_of};
+ghost use Rattle.trial.specs.Sizes.{as_long};
 
 use lineup::{Entry, LineUp, Roll, RollRefusal};
 use std::alloc::{AllocError, Global};
@@ -45,7 +45,7 @@ fn better(best: Option<Entry>, place: usize, key: Option<u64>) -> Option<Entry>
 impl Roll for Scan {
     ghost keys = { λ s. s.keys.items };
 
-    ghost sized = { λ s. (subst (λ n. 1 ≤ n) s.keys.ok.0 s.some, subst (λ n. n ≤ most_places) s.keys.ok.0 s.few) };
+    ghost sized = { λ s. as_long s.keys 1 most_places s.some s.few };
 
     fn capacity(&self) -> usize {
         self.keys.len()
