@@ -1,5 +1,5 @@
 -- What a span is, for every share: the fewest whole ticks in which a printer of that share feeds the length.
-use Rattle.std.proofs.Common.{◌≡◌, ℕ, ◌+◌, ◌*◌, ◌/◌, ◌%◌, min, mul_comm, ◌<◌, ◌≤◌, ◌⊎◌, refl, inl, inr, mul-le-mul_left, arith}
+use Rattle.std.proofs.Common.{◌≡◌, ℕ, ◌+◌, ◌*◌, ◌/◌, ◌%◌, min, mul_comm, ◌<◌, ◌≤◌, inl, inr, mul-le-mul_left, arith}
 use Rattle.std.proofs.lemmas.Bool.{cases_lt}
 use Rattle.std.proofs.lemmas.Grind.{div_ceil_times}
 use Rattle.schedule.specs.Limits.{unit}

@@ -1,8 +1,7 @@
 -- How long an order is, and how long a printer of one share would take for it.
 use Rattle.std.specs.Prelude.{ℕ, ◌+◌, ◌-◌, ◌*◌, ◌/◌, Bool, not, ◌||◌, List, [], ◌∷◌, length, ◌==◌, nat_le, nat_lt, slice_index}
 use Rattle.schedule.specs.declared.order.Order.{Order}
-use Rattle.schedule.specs.declared.refusal.Refusal.{Refusal}
-use Rattle.schedule.specs.declared.refusal.Refusal.TheVariants.{ShareOutOfRange, LifeOver, NoFormat, BadLength, RingFull}
+use Rattle.schedule.specs.declared.refusal.Refusal.TheVariants.{NoFormat, BadLength}
 use Rattle.schedule.specs.Limits.{unit, least_share, longest, life_limit, ring_size}
 use Rattle.schedule.specs.Refusals.{Conditions}
 

@@ -1,4 +1,4 @@
-use Rattle.std.proofs.Common.{◌≡◌, ◌*◌, ◌<◌, ◌≤◌, inr, arith}
+use Rattle.std.proofs.Common.{inr, arith}
 use Rattle.schedule.proofs.Lengths.{feed_known, length_made, length_refused, most_fit, one_more, some_fit}
 use Rattle.schedule.proofs.format.most_copies.Goals as goal
 

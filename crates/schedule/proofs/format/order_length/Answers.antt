@@ -1,4 +1,4 @@
-use Rattle.std.proofs.Common.{◌≡◌, ◌*◌, ◌<◌, ◌≤◌, inl, inr, arith}
+use Rattle.std.proofs.Common.{inl, inr, arith}
 use Rattle.schedule.specs.Orders.{length_of}
 use Rattle.schedule.proofs.Lengths.{feed_known, length_made, length_refused}
 use Rattle.schedule.proofs.format.order_length.Goals as goal

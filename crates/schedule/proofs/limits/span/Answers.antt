@@ -1,4 +1,4 @@
-use Rattle.std.proofs.Common.{◌≡◌, ◌+◌, ◌*◌, ◌<◌, ◌≤◌, sym, arith}
+use Rattle.std.proofs.Common.{◌≡◌, ◌*◌, ◌<◌, sym, arith}
 use Rattle.schedule.specs.Limits.{unit}
 use Rattle.schedule.proofs.Spans.{span_of_none, span_is, ceil_covers}
 use Rattle.schedule.proofs.limits.span.Goals as goal
