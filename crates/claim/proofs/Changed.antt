@@ -62,7 +62,7 @@ module _ (code : List ℕ) (n : ℕ) (h : Accepted code n) (i d : ℕ) (lt : i <
       let last : last_of (set code i d) ≡ last_of code = ap (λ l. get_or (set code i d) (l - 1) 0) size ∙ get_or-set_other code i (length code - 1) d 0 (λ e. omega arith) in
       let ds : digits_in (front (set code i d)) ≡ set (digits_in fr) i (d - 48) = ap digits_in fronts ∙ map-set (λ b. b - 48) fr i d in
       let old : get_or (digits_in fr) i 0 ≡ get_or code i 0 - 48 = get_or-map (λ b. b - 48) fr i 0 0 (omega arith) ∙ ap (λ b. b - 48) (get_or-take (length code - 1) code i 0 (omega arith)) in
-      let byte = digit_byte code i h.good.digits lt in
+      let byte = digit_byte code i 0 h.good.digits lt in
       let same : check_digit (set (digits_in fr) i (d - 48)) ≡ check_digit (digits_in fr) = omega (arith, ap check_digit ds, last, k.right, h.right) in
       let e = check_apart (digits_in fr) i (d - 48) (simp length-map (omega arith)) (omega arith) (omega arith) same in
       other (omega arith)

@@ -1,14 +1,13 @@
 -- What making a code writes, and that reading takes it back.
-use Rattle.std.proofs.Common.{◌≡◌, ℕ, ◌+◌, ◌-◌, ◌<◌, ◌≤◌, Bool, true, false, List, [], ◌∷◌, ◌++◌, length, get_or, take, drop, set, Ok, decimal, sym, refl, ap, ◌∙◌, arith, length-append, rules}
-use native.Mathlib.Nat.{sub-zero}
+use Rattle.std.proofs.Common.{◌≡◌, ℕ, ◌+◌, ◌-◌, ◌<◌, ◌≤◌, true, [], ◌∷◌, length, get_or, Ok, decimal, sym, ap, ◌∙◌, arith, length-append, rules}
 use Rattle.std.specs.Str.{all_ascii_digits}
-use Rattle.std.proofs.lemmas.List.{set_at, drop_more, append_assoc, take_at, take_all, get_or_at, get_or_append_left}
+use Rattle.std.proofs.lemmas.List.{take_at, get_or_at, get_or_append_left}
+use Rattle.std.proofs.lemmas.Str.Ascii.{encode_ascii}
 use Rattle.std.proofs.lemmas.Fmt.{length-decimal-le, decimal_nonempty, first_decimal, digits_decimal, digits_value-decimal}
-use Rattle.claim.specs.declared.refusal.CodeRefusal.TheVariants.{BadNumber}
 use Rattle.claim.specs.Luhn.{check_digit}
-use Rattle.claim.specs.Code.{widest, longest, largest, digits_in, code_of, coded, making, value_after, front, number_in, reading}
+use Rattle.claim.specs.Code.{widest, largest, digits_in, code_of, value_after, front, number_in, reading}
 use Rattle.claim.proofs.Numbers.{numerals}
-use Rattle.claim.proofs.Reading.{WellFormed, Checked, accepted, never, digits_append}
+use Rattle.claim.proofs.Reading.{WellFormed, Checked, accepted, digits_append}
 
 -- the byte of a number's check digit
 abbrev check_byte : ℕ → ℕ
@@ -19,10 +18,6 @@ length_code n = length-append (decimal n) (check_byte n ∷ [])
 
 check_is_digit : (n : ℕ) → all_ascii_digits (check_byte n ∷ []) ≡ true
 check_is_digit n = search rules
-
--- a text that ends with the number, from the number's first digit on
-pub spelled : (n at : ℕ) (text : List ℕ) → at + length (decimal n) ≡ widest → drop at text ≡ decimal n → take (widest - at) (drop at text) ≡ decimal n
-spelled n at text fits e = rw e (take_all (widest - at) (decimal n) (omega arith))
 
 module _ (n : ℕ) (some : 0 < n) (small : n ≤ largest) where
   pub digits_short : length (decimal n) ≤ widest
@@ -58,27 +53,5 @@ module _ (n : ℕ) (some : 0 < n) (small : n ≤ largest) where
       } in
       accepted (code_of n) good right ∙ ap (λ k. Ok k) number
 
-  module _ (out : List ℕ) (room : longest ≤ length out) where
-    -- the digits put in front of the memory, and then the check digit behind them
-    pub writes_code : (part written : List ℕ) (d : ℕ) → part ≡ decimal n → written ≡ part → d ≡ 48 + check_digit (digits_in part) → set (written ++ drop (length part - 0) out) (length part) d ≡ code_of n ++ drop (length (code_of n)) out
-    writes_code part written d p w e =
-        let short = digits_short in
-        let behind = drop_more out (length (decimal n)) 0 (omega arith) in
-        rw (e, w, p, sub-zero)
-        (
-        ap (λ l. set (decimal n ++ l) (length (decimal n)) (check_byte n)) behind
-        ∙ set_at (decimal n) _ _ _ _ refl
-        ∙ ap (λ k. decimal n ++ (check_byte n ∷ drop k out)) (sym (length_code n))
-        ∙ sym (append_assoc (decimal n) (check_byte n ∷ []) (drop (length (code_of n)) out))
-        )
-
-    pub reads_back : reading (take (length (decimal n) + 1) (code_of n ++ drop (length (code_of n)) out)) ≡ Ok n
-    reads_back = ap reading (take_at (code_of n) _ (length (decimal n) + 1) (length_code n)) ∙ code_reads
-
--- only a number that has a code is made
-pub on_made : (n k : ℕ) (out : List ℕ) → Ok k ≡ making n out → coded n ≡ true
-on_made n k out h = by (coded n) refl
-  where
-    by : (t : Bool) → coded n ≡ t → coded n ≡ true
-    by true e = e
-    by false e = absurd (never k BadNumber (h ∙ rw e))
+-- what `code` needs of its number's digits
+pub ruleset of_a_code = (digits_short, digits_all, code_reads, encode_ascii)

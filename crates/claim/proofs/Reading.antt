@@ -148,6 +148,6 @@ too_large limit n code valued large good = omega (arith, (on_some limit n (front
 
 pub last_no_digit : (code : List ℕ) → is_ascii_digit (last_of code) ≡ false → WellFormed code → ⊥
 last_no_digit code other good =
-    let byte = digit_byte code (length code - 1) good.digits (omega (arith, good.two)) in
+    let byte = digit_byte code (length code - 1) 0 good.digits (omega (arith, good.two)) in
     let z : ◌≡◌ {A = ℕ} 0 1 = grind (arith, nat_tests) in
     omega arith

@@ -1,6 +1,8 @@
 -- Claim codes: a session number in decimal, then its check digit, as ASCII bytes; how they are made and read.
 use Rattle.std.specs.Prelude.{ℕ, ◌+◌, ◌-◌, ◌*◌, ◌^◌, min, Bool, cond, not, ◌&&◌, List, [], ◌∷◌, ◌++◌, map, length, take, drop, Some, None, Ok, Err, decimal, Option, Result, ◌==◌, nat_le, nat_lt, slice_index}
 use Rattle.std.specs.Str.{all_ascii_digits}
+use Rattle.std.specs.Result.{result_map_both}
+use Rattle.arrayvec.specs.ArrayString.{ArrayString}
 use Rattle.claim.specs.declared.refusal.CodeRefusal.{CodeRefusal}
 use Rattle.claim.specs.declared.refusal.CodeRefusal.TheVariants.{NoRoom, BadNumber, BadCheck}
 use Rattle.claim.specs.Luhn.{check_digit}
@@ -28,6 +30,14 @@ code_of n = decimal n ++ ((48 + check_digit (digits_in (decimal n))) ∷ [])
 -- whether a number has a code
 abbrev pub coded : ℕ → Bool
 coded n = nat_lt 0 n && nat_le n largest
+
+-- the bytes of a text that is answered
+abbrev pub bytes_in : Result ArrayString CodeRefusal → Result (List ℕ) CodeRefusal
+bytes_in r = result_map_both (λ t. t.bytes) (λ why. why) r
+
+-- the code of a number, where it has one
+abbrev pub coding : ℕ → Result (List ℕ) CodeRefusal
+coding n = cond (coded n) (Ok (code_of n)) (Err BadNumber)
 
 -- making: the answer, with the refusals in the sequence in which they are tried
 abbrev pub making : ℕ → List ℕ → Result ℕ CodeRefusal

@@ -3,55 +3,59 @@
 // A customer shows the code to collect an envelope; staff make codes and read them back.
 #![tactic(auto)]
 
-ghost use Rattle.std.specs.Prelude.{◌≡◌, ◌<◌, ◌≤◌, true, ◌++◌, length, take, drop, IfOk, if◌then◌else◌, Some, None, Ok, OnOk};
-ghost use Rattle.claim.specs.Code.{largest, longest, code_of, making, memory, number_in, well_formed, checked, reading};
+ghost use Rattle.std.specs.Prelude.{◌≡◌, ◌≤◌, true, take, IfOk, if◌then◌else◌, Some, None, Ok, OnOk};
+ghost use Rattle.claim.specs.Code.{longest, bytes_in, coding, making, memory, number_in, well_formed, checked, reading};
 ghost use Rattle.claim.specs.Laws.{CodeOf, Guarded, WorkedExamples};
 
 mod digits;
 mod refusal;
 
+use arrayvec::ArrayString;
+use digits::Digits;
 pub use digits::value;
-use digits::{WIDEST, check_digit, spell};
+use itoa::Buffer;
 pub use refusal::CodeRefusal;
 
 // The largest session number that has a code.
 pub const LARGEST: u64 = 1 << 60;
 
-// The most digits of a code: those of a session number and the check digit.
-pub const LONGEST: usize = WIDEST + 1;
+// The most digits of a code: those of a session number, at most 19, and the check digit.
+pub const LONGEST: usize = 20;
 
-// Writes the number's code at the front of `out`, and answers its length.
-fn write_code(number: u64, out: &mut [u8]) -> usize
-    requires { (0 < number) × ((number ≤ largest) × (longest ≤ length out.old)) }
-    ensures counts { result ≡ length (code_of number) }
-    ensures fits { result ≤ longest }
-    ensures writes { out.new ≡ code_of number ++ drop (length (code_of number)) out.old }
-    ensures reads_back { reading (take result out.new) ≡ Ok number }
+// The number's code, as text.
+#[tactic(auto, using(crate::proofs::Making::of_a_code))]
+pub fn code(number: u64) -> Result<ArrayString<LONGEST>, CodeRefusal>
+    ensures answers_the_code { bytes_in result ≡ coding number }
+    ensures reads_back { IfOk result (λ t. reading t.bytes ≡ Ok number) }
 {
-    let mut text = [0u8; WIDEST];
-    let at = spell(number, &mut text);
-    let digits = &text[at..];
-    let n = digits.len();
-    out[0..n].copy_from_slice(digits);
-    out[n] = check_digit(digits);
-    n + 1
+    if number == 0 || number > LARGEST {
+        return Err(CodeRefusal::BadNumber);
+    }
+    let mut buffer = Buffer::new();
+    let text = buffer.format(number);
+    let digits = Digits {
+        text: text.as_bytes(),
+    };
+    let mut code = ArrayString::new();
+    code.push_str(text);
+    code.push(char::from(digits.check_digit()));
+    Ok(code)
 }
 
 // Writes the number's code at the front of `out`, and answers its length.
-// Only the code's own bytes are written; a refusal writes nothing.
+// Only the code's own bytes are written; a refusal writes nothing. The memory is the caller's, so its length and the code's stay two numbers.
 pub fn make(number: u64, out: &mut [u8]) -> Result<usize, CodeRefusal>
     ensures answers_the_length { result ≡ making number out.old }
     ensures at_most_the_longest { IfOk result (λ k. k ≤ longest) }
     ensures writes_only_the_code { out.new ≡ memory number out.old }
     ensures reads_back { IfOk result (λ k. reading (take k out.new) ≡ Ok number) }
 {
-    if number == 0 || number > LARGEST {
-        return Err(CodeRefusal::BadNumber);
-    }
+    let code = code(number)?;
     if out.len() < LONGEST {
         return Err(CodeRefusal::NoRoom);
     }
-    let len = write_code(number, out);
+    let len = code.len();
+    out[..len].copy_from_slice(code.as_str().as_bytes());
     Ok(len)
 }
 
@@ -79,10 +83,10 @@ fn ends_with_check_digit(code: &[u8]) -> bool
     ensures is_the_code { result ≡ true → CodeOf (number_in code.now) code.now }
     ensures guards { result ≡ true → Guarded code.now }
 {
-    let [digits @ .., last] = code else {
+    let [front @ .., last] = code else {
         return false;
     };
-    *last == check_digit(digits)
+    *last == Digits { text: front }.check_digit()
 }
 
 // The session number of a code.
@@ -91,9 +95,7 @@ pub fn read(code: &[u8]) -> Result<u64, CodeRefusal>
     ensures accepts_only_codes { IfOk result (λ n. CodeOf n code.now) }
     ensures one_changed_digit_is_refused { OnOk result (Guarded code.now) }
 {
-    let Some(number) = number_before(code) else {
-        return Err(CodeRefusal::BadNumber);
-    };
+    let number = number_before(code).ok_or(CodeRefusal::BadNumber)?;
     if !ends_with_check_digit(code) {
         return Err(CodeRefusal::BadCheck);
     }

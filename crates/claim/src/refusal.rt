@@ -13,11 +13,11 @@ pub enum CodeRefusal {
     BadCheck = 42,
 }
 
-impl CodeRefusal {
-    // The number that messages and slips show.
-    pub fn number(self) -> u8
-        ensures is_its_number { result ≡ number_of self }
-    {
-        self as u8
+// The number that messages and slips show.
+impl From<CodeRefusal> for u8 {
+    ghost from_gives = { λ why number. number ≡ number_of why };
+
+    fn from(why: CodeRefusal) -> u8 {
+        why as u8
     }
 }

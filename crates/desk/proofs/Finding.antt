@@ -1,5 +1,5 @@
--- A word of digits at the desk: it is text, it is a line's one word, and a session's number and code find each other.
-use Rattle.std.proofs.Common.{◌≡◌, ℕ, ◌-◌, ◌^◌, ◌<◌, ◌≤◌, min, true, false, eqb, List, [], ◌∷◌, length, Some, Ok, IsUtf8, decimal, refl, ap, ◌∙◌, arith}
+-- A word of digits at the desk: it is a line's one word, and a session's number and code find each other.
+use Rattle.std.proofs.Common.{◌≡◌, ℕ, ◌-◌, ◌^◌, ◌<◌, ◌≤◌, min, true, false, eqb, List, [], ◌∷◌, length, Some, Ok, decimal, refl, ap, ◌∙◌, arith}
 use Rattle.std.specs.Char.{is_ascii_whitespace, is_ascii_graphic, is_ascii_digit}
 use Rattle.std.specs.Str.{all_ascii_digits}
 use Rattle.std.proofs.lemmas.Bool.{and_parts, and_from, lt-ltb, le-leb, ne_eqb, cond-true}
@@ -8,12 +8,10 @@ use Rattle.std.proofs.lemmas.Fmt.{decimal_nonempty, digits_value-decimal}
 use Rattle.claim.specs.Code.{largest, coded, code_of, digits_in, value_after}
 use Rattle.claim.proofs.Numbers.{numerals, value_some}
 use Rattle.claim.proofs.Making.{digits_all, code_digits, code_some, code_reads}
-use Rattle.desk.specs.declared.request.Verb.TheVariants.{MakeCode, ReadCode}
 use Rattle.desk.specs.Words.{skip_white, until_white, from_white, first_word, after_word, visible}
-use Rattle.desk.specs.Requests.{make, sole_word, with_number, numbered, joint}
+use Rattle.desk.specs.Requests.{make, read, sole_word, with_number, with_word, numbered}
 use Rattle.desk.specs.Replies.{read_outcome_by, reply_by, shown_by, in_words}
 use Rattle.desk.specs.Laws.{FindsEachSession}
-use Rattle.desk.proofs.Splitting.{utf8_visible}
 
 digit_visible : (b : ℕ) → is_ascii_digit b ≡ true → is_ascii_graphic b ≡ true
 digit_visible b h = grind (arith, nat_tests)
@@ -23,10 +21,6 @@ digits_visible [] h = refl
 digits_visible (b ∷ bs) h =
     let p = and_parts (is_ascii_digit b) (all_ascii_digits bs) h in
     and_from (is_ascii_graphic b) (visible bs) (digit_visible b p.0) (digits_visible bs p.1)
-
--- digits are text
-pub digits_are_text : (bs : List ℕ) → all_ascii_digits bs ≡ true → IsUtf8 bs
-digits_are_text bs h = utf8_visible bs (digits_visible bs h)
 
 -- a visible word has no white space in it
 visible_dark : (b : ℕ) → is_ascii_graphic b ≡ true → is_ascii_whitespace b ≡ false
@@ -63,6 +57,6 @@ finds_each_session line n some small =
     let number = sole (decimal n) (digits_visible (decimal n) (digits_all n some small)) (decimal_nonempty n (omega arith)) in
     let code = sole (code_of n) (digits_visible (code_of n) (code_digits n some small)) (code_some n some small) in
     let has_code : coded n ≡ true = and_from _ _ (lt-ltb 0 n some) (le-leb n largest small) in (
-      ap (λ w. in_words (reply_by line (joint (Ok MakeCode) w))) number ∙ ap (λ r. in_words (reply_by line r)) (typed_number n some small) ∙ ap (shown_by (decimal n)) (cond-true (coded n) _ _ has_code),
-      ap (λ w. in_words (reply_by line (joint (Ok ReadCode) w))) code ∙ ap (λ r. shown_by (code_of n) (read_outcome_by r)) (code_reads n some small),
+      ap (λ w. in_words (reply_by line (with_word numbered w))) number ∙ ap (λ r. in_words (reply_by line r)) (typed_number n some small) ∙ ap (shown_by (decimal n)) (cond-true (coded n) _ _ has_code),
+      ap (λ w. in_words (reply_by line (with_word (λ word. Ok (read word)) w))) code ∙ ap (λ r. shown_by (code_of n) (read_outcome_by r)) (code_reads n some small),
     )

@@ -1,3 +1,2 @@
 mod Splitting
-mod Saying
 mod Finding

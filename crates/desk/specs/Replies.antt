@@ -5,10 +5,10 @@ use Rattle.claim.specs.declared.refusal.CodeRefusal.TheVariants.{NoRoom, BadNumb
 use Rattle.claim.specs.Refusals.{number_of}
 use Rattle.claim.specs.Code.{largest, coded, code_of, reading}
 use Rattle.desk.specs.declared.reply.Reply.{Reply}
-use Rattle.desk.specs.declared.reply.Outcome.{Outcome}
-use Rattle.desk.specs.declared.reply.Outcome.TheVariants.{Made, Found, NotMade, NotFound, NotUnderstood}
+use Rattle.desk.specs.declared.made.Made.{Made}
+use Rattle.desk.specs.declared.reply.Answer.{Answer}
+use Rattle.desk.specs.declared.reply.Answer.TheVariants.{Make, Read}
 use Rattle.desk.specs.declared.request.Misread.{Misread}
-use Rattle.desk.specs.Codes.{digits_of}
 use Rattle.desk.specs.Requests.{Asked, make, read, asked, reason_of}
 
 -- what comes of a line, as a plain value
@@ -19,26 +19,19 @@ pub data Said : Type 0 where
   not_found : (why : CodeRefusal) → Said
   not_understood : (line : ℕ) (why : Misread) → Said
 
--- the plain value of an outcome
-abbrev pub said : Outcome → Said
-said (Made n c) = made n (digits_of c)
-said (Found n) = found n
-said (NotMade why) = not_made why
-said (NotFound why) = not_found why
-said (NotUnderstood line why) = not_understood line why
-
 -- a reply: the line's second word as it was typed, and what came of it
 pub record Replied : Type 0 where
   pub typed : List ℕ
   pub outcome : Said
 
--- the plain value of a reply
-abbrev pub replied : Reply → Replied
-replied r = record { typed = r.typed.now; outcome = said r.outcome }
-
 -- what comes of `make`: the session's code, or refusal 41
 abbrev pub make_outcome : ℕ → Said
 make_outcome n = cond (coded n) (made n (code_of n)) (not_made BadNumber)
+
+-- what comes of `make`, by the session and its code, or the refusal
+abbrev pub make_outcome_by : Result Made CodeRefusal → Said
+make_outcome_by (Ok m) = made m.session m.code.bytes
+make_outcome_by (Err why) = not_made why
 
 -- what comes of `read`, by the answer of reading
 abbrev pub read_outcome_by : Result ℕ CodeRefusal → Said
@@ -53,6 +46,20 @@ read_outcome code = read_outcome_by (reading code)
 abbrev pub answer_to : Asked → Replied
 answer_to (make typed n) = record { typed = typed; outcome = make_outcome n }
 answer_to (read code) = record { typed = code; outcome = read_outcome code }
+
+-- the plain value of an answer
+abbrev pub answered : Answer → Replied
+answered (Make typed outcome) = record { typed = typed.now; outcome = make_outcome_by outcome }
+answered (Read typed session) = record { typed = typed.now; outcome = read_outcome_by session }
+
+-- the plain value of a reply, by its line's number
+abbrev pub replied_by : ℕ → Result Answer Misread → Replied
+replied_by line (Ok answer) = answered answer
+replied_by line (Err why) = record { typed = []; outcome = not_understood line why }
+
+-- the plain value of a reply
+abbrev pub replied : Reply → Replied
+replied r = replied_by r.line r.answer
 
 -- the reply by what a line asks; a line that is not understood is named by its number
 abbrev pub reply_by : ℕ → Result Asked Misread → Replied

@@ -5,8 +5,6 @@ use Rattle.std.specs.Str.{bytes_eq}
 use Rattle.claim.specs.Code.{value_up_to}
 use Rattle.desk.specs.declared.request.Request.{Request}
 use Rattle.desk.specs.declared.request.Request.TheVariants.{Make, Read}
-use Rattle.desk.specs.declared.request.Verb.{Verb}
-use Rattle.desk.specs.declared.request.Verb.TheVariants.{MakeCode, ReadCode}
 use Rattle.desk.specs.declared.request.Misread.{Misread}
 use Rattle.desk.specs.declared.request.Misread.TheVariants.{Blank, UnknownWord, NothingFollows, TooMuchFollows, NotVisible, NotANumber}
 use Rattle.desk.specs.Words.{first_word, after_word, visible}
@@ -47,27 +45,21 @@ with_number typed None = Err NotANumber
 abbrev pub numbered : List ℕ → Result Asked Misread
 numbered typed = with_number typed (value_up_to (2 ^ 64 - 1) typed)
 
--- what the first word of a line asks for
-abbrev pub verb_of : List ℕ → Result Verb Misread
-verb_of word =
-    cond (length word == 0) (Err Blank)
-    (cond (bytes_eq word (codes "make")) (Ok MakeCode)
-    (cond (bytes_eq word (codes "read")) (Ok ReadCode) (Err UnknownWord)))
+-- what a first word asks, with the one word of what follows it
+abbrev pub with_word : (List ℕ → Result Asked Misread) → Result (List ℕ) Misread → Result Asked Misread
+with_word asks (Ok word) = asks word
+with_word asks (Err e) = Err e
 
--- what a verb and the one word after it ask
-abbrev pub request : Verb → List ℕ → Result Asked Misread
-request MakeCode word = numbered word
-request ReadCode word = Ok (read word)
-
--- what the first word and what follows it ask; the first word is looked at first
-abbrev pub joint : Result Verb Misread → Result (List ℕ) Misread → Result Asked Misread
-joint (Err e) word = Err e
-joint (Ok verb) (Err e) = Err e
-joint (Ok verb) (Ok word) = request verb word
+-- what the first word of a line and what follows it ask; the first word is looked at first
+abbrev pub joint : List ℕ → List ℕ → Result Asked Misread
+joint first rest =
+    cond (length first == 0) (Err Blank)
+    (cond (bytes_eq first (codes "make")) (with_word numbered (sole_word rest))
+    (cond (bytes_eq first (codes "read")) (with_word (λ word. Ok (read word)) (sole_word rest)) (Err UnknownWord)))
 
 -- what a line asks
 abbrev pub asked : List ℕ → Result Asked Misread
-asked line = joint (verb_of (first_word line)) (sole_word (after_word line))
+asked line = joint (first_word line) (after_word line)
 
 -- why a line is not understood, in words
 abbrev pub reason_of : Misread → List ℕ

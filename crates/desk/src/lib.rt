@@ -3,53 +3,42 @@
 
 ghost use Rattle.std.specs.Prelude.{◌≡◌};
 ghost use Rattle.desk.specs.Requests.{plainly};
-ghost use Rattle.desk.specs.Replies.{said, replied, make_outcome, read_outcome, answer_to, reply_to};
+ghost use Rattle.desk.specs.Replies.{replied, answered, make_outcome, make_outcome_by, answer_to, reply_to};
 ghost use Rattle.desk.specs.Laws.{FindsEachSession};
 
-mod code_text;
+mod made;
 mod reply;
 mod request;
 mod words;
 
-pub use code_text::CodeText;
-pub use reply::{Outcome, Reply};
+use claim::CodeRefusal;
+pub use made::Made;
+pub use reply::{Answer, Reply};
 pub use request::{Misread, Request, understand};
 
-// What comes of `make`.
-fn make_outcome(number: u64) -> Outcome
-    ensures comes_of_make { said result ≡ make_outcome number }
+// The session of this number with its claim code.
+fn make(number: u64) -> Result<Made, CodeRefusal>
+    ensures makes { make_outcome_by result ≡ make_outcome number }
 {
-    match CodeText::of(number) {
-        Ok(code) => Outcome::Made {
-            session: number,
-            code,
-        },
-        Err(why) => Outcome::NotMade { why },
-    }
+    let code = claim::code(number)?;
+    Ok(Made {
+        session: number,
+        code,
+    })
 }
 
-// What comes of `read`.
-fn read_outcome(code: &str) -> Outcome
-    ensures comes_of_read { said result ≡ read_outcome code.now }
-{
-    match claim::read(code.as_bytes()) {
-        Ok(session) => Outcome::Found { session },
-        Err(why) => Outcome::NotFound { why },
-    }
-}
-
-// The reply to a request.
-fn answer(request: Request<'_>) -> Reply<'_>
-    ensures answers { replied result ≡ answer_to (plainly request.entry) }
+// The answer to a request.
+fn answer(request: Request<'_>) -> Answer<'_>
+    ensures answers { answered result ≡ answer_to (plainly request.entry) }
 {
     match request {
-        Request::Make { typed, number } => Reply {
+        Request::Make { typed, number } => Answer::Make {
             typed,
-            outcome: make_outcome(number),
+            made: make(number),
         },
-        Request::Read { code } => Reply {
+        Request::Read { code } => Answer::Read {
             typed: code,
-            outcome: read_outcome(code),
+            session: claim::read(code.as_bytes()),
         },
     }
 }
@@ -57,13 +46,11 @@ fn answer(request: Request<'_>) -> Reply<'_>
 // The reply to a line, the `number`th of the input.
 pub fn reply_to(number: u64, line: &[u8]) -> Reply<'_>
     ensures replies { replied result ≡ reply_to number line.now }
+    ensures names_the_line { result.line ≡ number }
 {
-    match understand(line) {
-        Ok(request) => answer(request),
-        Err(why) => Reply {
-            typed: "",
-            outcome: Outcome::NotUnderstood { line: number, why },
-        },
+    Reply {
+        line: number,
+        answer: understand(line).map(answer),
     }
 }
 

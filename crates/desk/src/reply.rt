@@ -1,48 +1,97 @@
 // The desk's replies, and how each is shown in words.
-ghost use Rattle.std.specs.Prelude.{◌≡◌, Some};
-ghost use Rattle.desk.specs.Replies.{replied, in_words, reason_for};
+ghost use Rattle.std.specs.Prelude.{◌∷◌, ◌++◌, Some, decimal};
+ghost use Rattle.claim.specs.Code.{largest};
+ghost use Rattle.desk.specs.Replies.{answered, replied, in_words, refused};
 
-use crate::code_text::CodeText;
+use crate::made::Made;
 use crate::request::Misread;
-use claim::CodeRefusal;
+use claim::{CodeRefusal, LARGEST};
 use std::fmt;
 
-// What a session number has to be, and what a claim code has to be, in words.
-const NUMBER_DEMAND: &str = "session numbers go from 1 to 1152921504606846976";
+// What a session number has to be, and what a claim code has to be, in words; the largest session number follows.
+const NUMBER_DEMAND: &str = "session numbers go from 1 to";
 
 const CODE_DEMAND: &str =
-    "a claim code is 2 to 20 digits, the first not 0, of a session number up to 1152921504606846976";
+    "a claim code is 2 to 20 digits, the first not 0, of a session number up to";
 
-// What comes of a line.
+// The answer to a request.
 #[derive(Clone, Copy)]
-pub enum Outcome {
-    // a session has this claim code
-    Made { session: u64, code: CodeText },
-    // the claim code that was typed is this session's
-    Found { session: u64 },
-    // no session with a claim code was typed
-    NotMade { why: CodeRefusal },
-    // no claim code was typed
-    NotFound { why: CodeRefusal },
-    // the line with this number asks for nothing that the desk does
-    NotUnderstood { line: u64, why: Misread },
+pub enum Answer<'a> {
+    // the session whose number was typed, with its claim code
+    Make {
+        typed: &'a str,
+        made: Result<Made, CodeRefusal>,
+    },
+    // the session of the claim code that was typed
+    Read {
+        typed: &'a str,
+        session: Result<u64, CodeRefusal>,
+    },
 }
 
-// The desk's reply to a line: the line's second word as it was typed, and what came of it.
+// The desk's reply to a line: the line's number, and the answer to what it asks.
 #[derive(Clone, Copy)]
 pub struct Reply<'a> {
-    pub typed: &'a str,
-    pub outcome: Outcome,
+    pub line: u64,
+    pub answer: Result<Answer<'a>, Misread>,
 }
 
-// Why a code is refused, in words; `demand` says what a number or a code has to be.
-fn reason_for<'a>(why: CodeRefusal, demand: &'a str) -> &'a str
-    ensures in_words { result.now ≡ reason_for why demand.now }
-{
-    match why {
-        CodeRefusal::NoRoom => "there is no room for it",
-        CodeRefusal::BadNumber => demand,
-        CodeRefusal::BadCheck => "its check digit is wrong",
+// A refusal; `demand` says what a number or a code has to be, up to the largest session number.
+#[derive(Clone, Copy)]
+struct Refused {
+    why: CodeRefusal,
+    demand: &'static str,
+}
+
+// The words that follow what was typed.
+impl fmt::Display for Refused {
+    ghost output = { λ r. Some (refused r.why (r.demand.now ++ (32 ∷ decimal largest))) };
+
+    fn fmt<W: fmt::Write>(&self, f: &mut fmt::Formatter<W>) -> fmt::Result {
+        let Refused { why, demand } = *self;
+        let number = u8::from(why);
+        match why {
+            CodeRefusal::NoRoom => write!(f, " is refused ({number}): there is no room for it"),
+            CodeRefusal::BadNumber => write!(f, " is refused ({number}): {demand} {LARGEST}"),
+            CodeRefusal::BadCheck => write!(f, " is refused ({number}): its check digit is wrong"),
+        }
+    }
+}
+
+impl fmt::Display for Answer<'_> {
+    ghost output = { λ a. Some (in_words (answered a)) };
+
+    fn fmt<W: fmt::Write>(&self, f: &mut fmt::Formatter<W>) -> fmt::Result {
+        match *self {
+            Answer::Make {
+                made: Ok(Made { session, code }),
+                ..
+            } => write!(f, "session {session} has claim code {code}"),
+            Answer::Make {
+                typed,
+                made: Err(why),
+            } => {
+                let refused = Refused {
+                    why,
+                    demand: NUMBER_DEMAND,
+                };
+                write!(f, "session {typed}{refused}")
+            }
+            Answer::Read {
+                typed,
+                session: Ok(session),
+            } => write!(f, "claim code {typed} is session {session}"),
+            Answer::Read {
+                typed,
+                session: Err(why),
+            } => {
+                let refused = Refused {
+                    why,
+                    demand: CODE_DEMAND,
+                };
+                write!(f, "claim code {typed}{refused}")
+            }
+        }
     }
 }
 
@@ -50,27 +99,10 @@ impl fmt::Display for Reply<'_> {
     ghost output = { λ x. Some (in_words (replied x)) };
 
     fn fmt<W: fmt::Write>(&self, f: &mut fmt::Formatter<W>) -> fmt::Result {
-        let typed = self.typed;
-        match self.outcome {
-            Outcome::Made { session, code } => {
-                let code = code.as_str();
-                write!(f, "session {session} has claim code {code}")
-            }
-            Outcome::Found { session } => write!(f, "claim code {typed} is session {session}"),
-            Outcome::NotMade { why } => {
-                let number = why.number();
-                let reason = reason_for(why, NUMBER_DEMAND);
-                write!(f, "session {typed} is refused ({number}): {reason}")
-            }
-            Outcome::NotFound { why } => {
-                let number = why.number();
-                let reason = reason_for(why, CODE_DEMAND);
-                write!(f, "claim code {typed} is refused ({number}): {reason}")
-            }
-            Outcome::NotUnderstood { line, why } => {
-                let reason = why.reason();
-                write!(f, "line {line} is not understood: {reason}")
-            }
+        let line = self.line;
+        match &self.answer {
+            Ok(answer) => write!(f, "{answer}"),
+            Err(why) => write!(f, "line {line} is not understood: {why}"),
         }
     }
 }

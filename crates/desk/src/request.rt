@@ -1,8 +1,10 @@
 // What a line asks of the desk: `make NUMBER` or `read CODE`.
-ghost use Rattle.std.specs.Prelude.{◌≡◌};
-ghost use Rattle.desk.specs.Requests.{asked_by, asked, verb_of, sole_word, reason_of, held_text, numbered};
+ghost use Rattle.std.specs.Prelude.{◌≡◌, Some};
+ghost use Rattle.desk.specs.Requests.{asked_by, asked, sole_word, reason_of, held_text, numbered};
 
-use crate::words::{reads_as, split_word, visible_text};
+use crate::words::{split_word, visible_text};
+use std::error::Error;
+use std::fmt;
 
 // A request, with its second word as it was typed.
 #[derive(Clone, Copy)]
@@ -11,13 +13,6 @@ pub enum Request<'a> {
     Make { typed: &'a str, number: u64 },
     // the session of a claim code
     Read { code: &'a str },
-}
-
-// What a line's first word asks for.
-#[derive(Clone, Copy)]
-enum Verb {
-    MakeCode,
-    ReadCode,
 }
 
 // Why a line is not understood.
@@ -32,7 +27,7 @@ pub enum Misread {
 }
 
 impl Misread {
-    // The reason in words, which follow `line N is not understood: `.
+    // The reason in words, which follow `line N is not understood: `; the Display is made of it, since writing may fail and this text cannot.
     pub fn reason(self) -> &'static str
         ensures in_words { result.now ≡ reason_of self }
     {
@@ -46,6 +41,16 @@ impl Misread {
         }
     }
 }
+
+impl fmt::Display for Misread {
+    ghost output = { λ why. Some (reason_of why) };
+
+    fn fmt<W: fmt::Write>(&self, f: &mut fmt::Formatter<W>) -> fmt::Result {
+        f.write_str(self.reason())
+    }
+}
+
+impl Error for Misread {}
 
 // The one word of `text`.
 fn sole_word(text: &[u8]) -> Result<&str, Misread>
@@ -66,25 +71,8 @@ fn sole_word(text: &[u8]) -> Result<&str, Misread>
 fn make_request(typed: &str) -> Result<Request<'_>, Misread>
     ensures asks_for_the_number { asked_by result ≡ numbered typed.now }
 {
-    match claim::value(typed.as_bytes()) {
-        Some(number) => Ok(Request::Make { typed, number }),
-        None => Err(Misread::NotANumber),
-    }
-}
-
-// What the first word of a line asks for.
-fn verb_of(word: &[u8]) -> Result<Verb, Misread>
-    ensures takes_the_verb { result ≡ verb_of word.now }
-{
-    if word.is_empty() {
-        Err(Misread::Blank)
-    } else if reads_as(word, "make") {
-        Ok(Verb::MakeCode)
-    } else if reads_as(word, "read") {
-        Ok(Verb::ReadCode)
-    } else {
-        Err(Misread::UnknownWord)
-    }
+    let number = claim::value(typed.as_bytes()).ok_or(Misread::NotANumber)?;
+    Ok(Request::Make { typed, number })
 }
 
 // What a line asks.
@@ -92,10 +80,10 @@ pub fn understand(line: &[u8]) -> Result<Request<'_>, Misread>
     ensures asks { asked_by result ≡ asked line.now }
 {
     let (word, rest) = split_word(line);
-    let verb = verb_of(word)?;
-    let argument = sole_word(rest)?;
-    match verb {
-        Verb::MakeCode => make_request(argument),
-        Verb::ReadCode => Ok(Request::Read { code: argument }),
+    match word {
+        b"" => Err(Misread::Blank),
+        b"make" => sole_word(rest).and_then(make_request),
+        b"read" => sole_word(rest).map(|code| Request::Read { code }),
+        _ => Err(Misread::UnknownWord),
     }
 }

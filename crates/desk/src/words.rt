@@ -1,7 +1,6 @@
 // A line's words: the runs of bytes between white space (space, tab, line feed, form feed, carriage return).
 ghost use Rattle.std.specs.Prelude.{◌≡◌, if◌then◌else◌, Some, None};
 ghost use Rattle.std.specs.Option.{option_map};
-ghost use Rattle.std.specs.Str.{bytes_eq};
 ghost use Rattle.desk.specs.Words.{first_word, after_word, visible};
 
 use std::str::from_utf8;
@@ -12,29 +11,16 @@ pub(crate) fn split_word(text: &[u8]) -> (&[u8], &[u8])
     ensures rest { result.1.now ≡ after_word text.now }
 {
     let text = text.trim_ascii_start();
-    for (i, b) in text.iter().enumerate() {
-        if b.is_ascii_whitespace() {
-            return text.split_at(i);
-        }
-    }
-    text.split_at(text.len())
-}
-
-// Whether a word is just this text.
-pub(crate) fn reads_as(word: &[u8], text: &str) -> bool
-    ensures compares { result ≡ bytes_eq word.now text.now }
-{
-    word == text.as_bytes()
+    let end = text.iter().position(|b| b.is_ascii_whitespace());
+    text.split_at(end.unwrap_or(text.len()))
 }
 
 // A word as text that can be shown as it is; none where it has a byte that is not a visible ASCII character.
 pub(crate) fn visible_text(word: &[u8]) -> Option<&str>
     ensures shows_as_it_is { option_map (λ x. x.now) result ≡ (if visible word.now then Some word.now else None) }
 {
-    for b in word {
-        if !b.is_ascii_graphic() {
-            return None;
-        }
+    if !word.iter().all(|b| b.is_ascii_graphic()) {
+        return None;
     }
     from_utf8(word).ok()
 }

@@ -118,7 +118,7 @@ fn bytes_behind_the_code_are_kept(rt: HostRuntime) {
 
 #[test]
 fn refusals_have_their_numbers(rt: HostRuntime) {
-    assert_eq!(rt; CodeRefusal::NoRoom.number(), 7);
-    assert_eq!(rt; CodeRefusal::BadNumber.number(), 41);
-    assert_eq!(rt; CodeRefusal::BadCheck.number(), 42);
+    assert_eq!(rt; u8::from(CodeRefusal::NoRoom), 7);
+    assert_eq!(rt; u8::from(CodeRefusal::BadNumber), 41);
+    assert_eq!(rt; u8::from(CodeRefusal::BadCheck), 42);
 }

@@ -1,15 +1,15 @@
-use Rattle.std.proofs.Common.{◌≡◌, ◌-◌, true, eqb, length, refl, ap, ◌∙◌, arith, length-take}
+use Rattle.std.proofs.Common.{◌≡◌, ◌-◌, true, eqb, length, refl, ap, ◌∙◌, rules}
 use Rattle.std.proofs.lemmas.Bool.{eqb-true}
 use Rattle.claim.specs.Code.{number_in}
 use Rattle.claim.proofs.Reading.{Accepted, tested, digits_take, only_codes, last_of}
 use Rattle.claim.proofs.Changed.{guarded}
 use Rattle.claim.proofs.ends_with_check_digit.Goals as goal
 
-pub check_digit-requires : goal.check_digit-requires
-check_digit-requires c =
+pub invariant_of-check_digit : goal.invariant_of-check_digit
+invariant_of-check_digit c =
     let code = c.args.code.now in
-    let good = tested code c.requires in
-    (digits_take code (length code - 1) good.digits, simp length-take (omega (arith, good.most)))
+    let digits = digits_take code (length code - 1) (tested code c.requires).digits in
+    search (rules, digits)
 
 pub returns : goal.returns
 returns c =

@@ -1,35 +1,20 @@
-use Rattle.std.proofs.Common.{◌≡◌, [], ◌++◌, length, take, drop, sym, ap, ◌∙◌, append-nil, arith}
-use Rattle.std.proofs.lemmas.List.{drop_all, take_all}
+use Rattle.std.proofs.Common.{◌≡◌, true, false, length, refl, sym, ap, ◌∙◌, arith, rules, tests}
+use Rattle.std.specs.Char.{is_ascii_whitespace}
+use Rattle.std.proofs.lemmas.Iterator.{YieldsList-from_slice, IsFirst-from_position, index_from_first}
 use Rattle.desk.specs.Words.{until_white, from_white}
-use Rattle.desk.proofs.Splitting.{trimmed, goes_on, stops}
+use Rattle.desk.proofs.Splitting.{trimmed, cut}
 use Rattle.desk.proofs.words.split_word.Goals as goal
 
-pub returns-then-is_ascii_whitespace : goal.returns-then-is_ascii_whitespace
-returns-then-is_ascii_whitespace c =
-    let t = c.trim_ascii_start-text.result.now in
-    let i = c.loop-i.i in
-    let skip = trimmed c.args.text.now t c.trim_ascii_start-text.ensures.value in
-    let here = stops t i c.loop-i-test.true (sym c.if-is_ascii_whitespace.ensures.value) in
-    record {
-      word = c.split_at.ensures.front ∙ sym here.0 ∙ c.loop-i.invariant.0 ∙ ap until_white skip;
-      rest = c.split_at.ensures.back ∙ sym here.1 ∙ c.loop-i.invariant.1 ∙ ap from_white skip;
-    }
-
-pub loop-i-preserved : goal.loop-i-preserved
-loop-i-preserved c =
-    let more = goes_on c.trim_ascii_start-text.result.now c.loop-i.i c.loop-i-test.true (sym c.if-is_ascii_whitespace.ensures.value) in
-    (more.0 ∙ c.loop-i.invariant.0, more.1 ∙ c.loop-i.invariant.1)
-
+-- the white space that was found, or else the end, is where the word ends
 pub returns : goal.returns
 returns c =
     let t = c.trim_ascii_start-text.result.now in
-    let i = c.loop-i.i in
     let skip = trimmed c.args.text.now t c.trim_ascii_start-text.ensures.value in
-    let none : drop i t ≡ [] = drop_all i t c.loop-i-test.false in
-    let all : take i t ≡ t = take_all i t c.loop-i-test.false in
-    let word : t ≡ until_white t = sym (append-nil t) ∙ (λ k. sym all k ++ until_white (sym none k)) ∙ c.loop-i.invariant.0 in
-    let rest : [] ≡ from_white t = ap from_white (sym none) ∙ c.loop-i.invariant.1 in
+    let first = IsFirst-from_position _ _ _ (λ b. is_ascii_whitespace b ≡ true) (λ b. is_ascii_whitespace b ≡ false) c.position-end.ensures.ran (YieldsList-from_slice t cc) (λ x q k. search (rules, tests)) (λ x q k. search (rules, tests)) in
+    let ends : length (until_white t) ≡ c.unwrap_or.result =
+    index_from_first (λ bs. length (until_white bs)) (λ b. is_ascii_whitespace b ≡ true) (λ b. is_ascii_whitespace b ≡ false) refl (λ x xs white. rw white) (λ x xs dark. rw dark (omega arith)) t _ first ∙ sym c.unwrap_or.ensures in
+    let parts = cut t c.unwrap_or.result ends in
     record {
-      word = c.split_at-2.ensures.front ∙ take_all (length t) t (omega arith) ∙ word ∙ ap until_white skip;
-      rest = c.split_at-2.ensures.back ∙ drop_all (length t) t (omega arith) ∙ rest ∙ ap from_white skip;
+      word = c.split_at.ensures.front ∙ parts.0 ∙ ap until_white skip;
+      rest = c.split_at.ensures.back ∙ parts.1 ∙ ap from_white skip;
     }
