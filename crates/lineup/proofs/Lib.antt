@@ -2,5 +2,5 @@ pub mod Fronts
 mod Heaped
 pub mod Joins
 mod Pairing
-mod Permutations
+mod Ranks
 mod Sifts

@@ -1,15 +1,15 @@
 -- What a swap leaves of a heap.
 use Rattle.std.proofs.Common.{◌≡◌, ℕ, zero, suc, ◌<◌, ◌≤◌, ap, ⊎_elim, arith, rules}
 use Rattle.std.proofs.lemmas.Bool.{cases_lt}
-use Rattle.lineup.specs.Heaps.{parent, IsHeap, ButUp, ButDown, Across, Swapped, LeastChild}
+use Rattle.lineup.specs.Heaps.{parent, IsHeap, ButAround, ButDown, Across, Swapped, LeastChild}
 
 -- a swap with the parent
-module _ (f g : ℕ → ℕ) (n i : ℕ) (pos : 0 < i) (inside : i < n) (s : Swapped f g i (parent i)) (less : f i < f (parent i)) (but : ButUp f n i) (across : Across f n i) where
-  pub up_but : ButUp g n (parent i)
-  up_but j p l ne = grind (arith, s, but, across)
+module _ (f g : ℕ → ℕ) (n i up : ℕ) (above : up < i) (is : parent i ≡ up) (inside : i < n) (s : Swapped f g i up) (less : f i < f up) (but : ButAround f n i) (across : Across f n i) where
+  pub up_around : ButAround g n up
+  up_around j p l ne na = grind (arith, s, but, across)
 
-  pub up_across : Across g n (parent i)
-  up_across j p l e z = search rules
+  pub up_across : Across g n up
+  up_across j p l e z = grind (arith, s, but, across)
 
 -- a swap with the least child
 module _ (f g : ℕ → ℕ) (n i c : ℕ) (least : LeastChild f n i c) (s : Swapped f g i c) (less : f c < f i) (but : ButDown f n i) (across : Across f n i) where

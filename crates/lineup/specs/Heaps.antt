@@ -1,6 +1,6 @@
 -- A binary heap: what stands at each position, and in which sequence.
 -- Only the heap's own functions cite these; what a heap means to others is the list of its keys.
-use Rattle.std.specs.Prelude.{◌≡◌, ℕ, ◌+◌, ◌-◌, ◌*◌, ◌/◌, ◌<◌, ◌≤◌, cond, List, is_some, Some, None, Option, ◌==◌, ◌≢◌, nat_lt, slice_index, slice_set}
+use Rattle.std.specs.Prelude.{◌≡◌, ℕ, ◌+◌, ◌-◌, ◌*◌, ◌/◌, ◌<◌, ◌≤◌, List, length, is_some, Option, ◌≢◌, nat_lt, slice_index}
 use Rattle.std.specs.Option.{unwrap_or}
 use Rattle.lineup.specs.Rolls.{heap_places, most_places, key_at}
 
@@ -12,23 +12,15 @@ parent j = (j - 1) / 2
 abbrev pub rank : List (Option ℕ) → ℕ → ℕ
 rank ks p = unwrap_or (key_at ks p) 0 * most_places + p
 
--- the rank of what stands at a position
-abbrev pub rank_at : List (Option ℕ) → List ℕ → ℕ → ℕ
-rank_at ks places i = rank ks (slice_index places i)
-
 -- a heap of n positions, ranked by f: none ranks before its parent
 abbrev pub IsHeap : (ℕ → ℕ) → ℕ → Type 0
 IsHeap f n = (j : ℕ) → 0 < j → j < n → f (parent j) ≤ f j
-
--- a heap but that position i may rank before its parent
-abbrev pub ButUp : (ℕ → ℕ) → ℕ → ℕ → Type 0
-ButUp f n i = (j : ℕ) → 0 < j → j < n → (j ≢ i) → f (parent j) ≤ f j
 
 -- a heap but that the children of position i may rank before it
 abbrev pub ButDown : (ℕ → ℕ) → ℕ → ℕ → Type 0
 ButDown f n i = (j : ℕ) → 0 < j → j < n → (parent j ≢ i) → f (parent j) ≤ f j
 
--- a heap but for both
+-- a heap but for that, and but that position i may rank before its parent
 abbrev pub ButAround : (ℕ → ℕ) → ℕ → ℕ → Type 0
 ButAround f n i = (j : ℕ) → 0 < j → j < n → (j ≢ i) → (parent j ≢ i) → f (parent j) ≤ f j
 
@@ -45,32 +37,12 @@ LeastChild f n i c =
 abbrev pub Swapped : (ℕ → ℕ) → (ℕ → ℕ) → ℕ → ℕ → Type 0
 Swapped f g a b = (g a ≡ f b) × (g b ≡ f a) × ((m : ℕ) → (m ≢ a) → (m ≢ b) → g m ≡ f m)
 
--- a list with two entries swapped
-abbrev pub swap_at : List ℕ → ℕ → ℕ → List ℕ
-swap_at xs a b = slice_set (slice_set xs a (slice_index xs b)) b (slice_index xs a)
-
--- two positions have swapped their places, and these two places their positions
-abbrev pub Exchanged : List ℕ → List ℕ → List ℕ → List ℕ → ℕ → ℕ → Type 0
-Exchanged places positions places' positions' a b =
-    Swapped (λ i. slice_index places i) (λ i. slice_index places' i) a b
-    × Swapped (λ p. slice_index positions p) (λ p. slice_index positions' p) (slice_index places a) (slice_index places b)
-
--- every entry is the number of a place, or of a position
-abbrev pub Inside : List ℕ → Type 0
-Inside xs = (i : ℕ) → i < heap_places → slice_index xs i < heap_places
-
--- the second list leads back to where the first leads from
-abbrev pub Undone : List ℕ → List ℕ → Type 0
-Undone xs ys = (i : ℕ) → i < heap_places → slice_index ys (slice_index xs i) ≡ i
-
--- the same places stand at the first n positions
-abbrev pub SameFirst : List ℕ → List ℕ → ℕ → Type 0
-SameFirst positions positions' n = (p : ℕ) → p < heap_places → nat_lt (slice_index positions' p) n ≡ nat_lt (slice_index positions p) n
+-- an entry for each place, or for each position, from which the other list leads back
+abbrev pub LeadsBack : List ℕ → List ℕ → Type 0
+LeadsBack xs ys =
+    (length xs ≡ heap_places)
+    × ((i : ℕ) → i < heap_places → (slice_index xs i < heap_places) × (slice_index ys (slice_index xs i) ≡ i))
 
 -- the places that have a key, and no others, stand at the first n positions
 abbrev pub Members : List (Option ℕ) → List ℕ → ℕ → Type 0
 Members ks positions n = (p : ℕ) → p < heap_places → is_some (key_at ks p) ≡ nat_lt (slice_index positions p) n
-
--- what stands at the root of the first n positions, if there are any
-abbrev pub root_of : List ℕ → ℕ → Option ℕ
-root_of places n = cond (n == 0) None (Some (slice_index places 0))

@@ -3,3 +3,4 @@ pub mod Heaps
 pub mod Pairs
 pub mod Rolls
 pub mod Sizes
+pub mod Trees

@@ -1,12 +1,13 @@
 // A place with its key, and which of two comes sooner.
 ghost use Rattle.std.specs.Prelude.{◌≡◌, ◌+◌, ◌^◌, ◌<◌, MatchOption};
 ghost use Rattle.lineup.specs.Rolls.{key_at};
-ghost use Rattle.lineup.specs.Front.{entry_of, moved, place_of, sooner_of};
+ghost use Rattle.lineup.specs.Front.{entry_of, moved, sooner_of};
 
 use crate::roll::Roll;
+use std::cmp::min_by;
 
 // A place with its key.
-#[derive(Clone, Copy)]
+#[derive(Clone, Copy, Debug, PartialEq, Eq)]
 pub struct Entry {
     pub place: usize,
     pub key: u64,
@@ -16,8 +17,7 @@ pub struct Entry {
 pub(crate) fn entry_at<R: Roll>(roll: &R, place: usize) -> Option<Entry>
     ensures answers_the_entry { result ≡ entry_of place (key_at (R.Roll.keys roll.now) place) }
 {
-    let key = roll.key_of(place)?;
-    Some(Entry { place, key })
+    roll.key_of(place).map(|key| Entry { place, key })
 }
 
 // The first of two, unless the second has a lesser key.
@@ -25,18 +25,9 @@ pub(crate) fn sooner(first: Option<Entry>, second: Option<Entry>) -> Option<Entr
     ensures answers_the_sooner { result ≡ sooner_of first second }
 {
     match (first, second) {
-        (None, _) => second,
-        (_, None) => first,
-        (Some(e), Some(f)) => { if f.key < e.key { second } else { first } }
+        (Some(e), Some(f)) => Some(min_by(e, f, |e, f| e.key.cmp(&f.key))),
+        (e, f) => e.or(f),
     }
-}
-
-// The place of what is found, if anything is.
-pub(crate) fn place_of(found: Option<Entry>) -> Option<usize>
-    ensures answers_the_place { result ≡ place_of found }
-{
-    let Entry { place, .. } = found?;
-    Some(place)
 }
 
 // What is found, so many places further on.
@@ -44,9 +35,8 @@ pub(crate) fn further(found: Option<Entry>, places: usize) -> Option<Entry>
     requires { MatchOption found Unit (λ e. e.place + places < 2 ^ 64) }
     ensures moves_it_on { result ≡ moved places found }
 {
-    let Entry { place, key } = found?;
-    Some(Entry {
-        place: place + places,
-        key,
+    found.map(|e| Entry {
+        place: e.place + places,
+        ..e
     })
 }

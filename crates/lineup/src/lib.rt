@@ -6,14 +6,13 @@
 mod any;
 mod entry;
 mod heap;
-mod keys;
 mod pair;
 mod permutation;
 mod refusal;
 mod roll;
 mod search;
-mod sift;
 mod table;
+mod tree;
 
 pub use any::{clear, front_with_key};
 pub use entry::Entry;

@@ -2,11 +2,11 @@
 ghost use Rattle.std.specs.Prelude.{◌≡◌, length, take};
 ghost use Rattle.lineup.specs.Rolls.{no_keys};
 ghost use Rattle.lineup.specs.Front.{front_entry};
-ghost use Rattle.lineup.specs.Pairs.{joint, capped, side_of, StandsFor};
+ghost use Rattle.lineup.specs.Pairs.{joint, side_of, StandsFor};
 ghost use Rattle.lineup.specs.Sizes.{joint_sized};
 
 use crate::any::{clear, front_with_key};
-use crate::entry::{Entry, further, place_of, sooner};
+use crate::entry::{Entry, further, sooner};
 use crate::refusal::RollRefusal;
 use crate::roll::{LineUp, Roll};
 use crate::search::front_below;
@@ -29,31 +29,23 @@ enum Side {
     First(usize),
     // at this place of the second
     Second(usize),
-    // nowhere: no pair has so many places
-    Beyond,
 }
 
-// Where a place stands, if the first has `own` places.
-fn side_of(own: usize, place: usize) -> Side
+// Where a place stands, if the first has `own` places, or none where no pair has so many places.
+fn side_of(own: usize, place: usize) -> Option<Side>
     ensures is_its_side { result ≡ side_of own place }
 {
     if place < own {
-        Side::First(place)
+        Some(Side::First(place))
     } else if place < MOST {
-        Side::Second(place - own)
+        Some(Side::Second(place - own))
     } else {
-        Side::Beyond
+        None
     }
 }
 
-// The sum of two capacities, or the most that a roll has where that is less.
-fn capped_sum(first: usize, second: usize) -> usize
-    ensures is_capped { result ≡ capped first second }
-{
-    first.saturating_add(second).min(MOST)
-}
-
 // The front among the first `room` places, with its key: the line-up's own if it is one of them, else by a search.
+#[tactic(auto, using(crate::proofs::Fronts::front_kept, crate::proofs::Fronts::front_none_kept))]
 fn front_within<L: LineUp>(line: &L, room: usize) -> Option<Entry>
     ensures answers_their_front { result ≡ front_entry (take room (L.Roll.keys line.now)) }
 {
@@ -85,8 +77,9 @@ impl<A: LineUp, B: LineUp> Pair<A, B> {
         pair
     }
 
-    // Where a place stands.
-    fn side(&self, place: usize) -> Side
+    // Where a place stands, or none where it is not the pair's.
+    #[tactic(auto, using(crate::proofs::Pairing::stands_for))]
+    fn side(&self, place: usize) -> Option<Side>
         ensures stands_for_it { StandsFor (A.Roll.keys self.now.first) (B.Roll.keys self.now.second) place result }
     {
         side_of(self.first.capacity(), place)
@@ -99,39 +92,41 @@ impl<A: LineUp, B: LineUp> Roll for Pair<A, B> {
     ghost sized = { λ p. joint_sized (A.Roll.keys p.first) (B.Roll.keys p.second) (A.Roll.sized p.first) };
 
     fn capacity(&self) -> usize {
-        capped_sum(self.first.capacity(), self.second.capacity())
+        self.first
+            .capacity()
+            .saturating_add(self.second.capacity())
+            .min(MOST)
     }
 
+    // one match for each call: a function over the two would take a closure for either, since their types differ
     fn key_of(&self, place: usize) -> Option<u64> {
-        match self.side(place) {
+        match self.side(place)? {
             Side::First(at) => self.first.key_of(at),
             Side::Second(at) => self.second.key_of(at),
-            Side::Beyond => None,
         }
     }
 
     fn put(&mut self, place: usize, key: u64) -> Result<(), RollRefusal> {
-        match self.side(place) {
+        match self.side(place).ok_or(RollRefusal::NoPlace)? {
             Side::First(at) => self.first.put(at, key),
             Side::Second(at) => self.second.put(at, key),
-            Side::Beyond => Err(RollRefusal::NoPlace),
         }
     }
 
     fn take_out(&mut self, place: usize) -> Option<u64> {
-        match self.side(place) {
+        match self.side(place)? {
             Side::First(at) => self.first.take_out(at),
             Side::Second(at) => self.second.take_out(at),
-            Side::Beyond => None,
         }
     }
 }
 
 impl<A: LineUp, B: LineUp> LineUp for Pair<A, B> {
+    #[tactic(auto, using(crate::proofs::Pairing::pair_front))]
     fn front(&self) -> Option<usize> {
         let own = self.first.capacity();
         let low = front_with_key(&self.first);
         let high = front_within(&self.second, MOST - own);
-        place_of(sooner(low, further(high, own)))
+        sooner(low, further(high, own)).map(|e| e.place)
     }
 }

@@ -9,11 +9,11 @@ pub enum RollRefusal {
     NoPlace = 40,
 }
 
-impl RollRefusal {
-    // The number that messages show.
-    pub fn number(self) -> u8
-        ensures is_its_number { result ≡ number_of self }
-    {
-        self as u8
+// The number that messages show.
+impl From<RollRefusal> for u8 {
+    ghost from_gives = { λ why number. number ≡ number_of why };
+
+    fn from(why: RollRefusal) -> u8 {
+        why as u8
     }
 }

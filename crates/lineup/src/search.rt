@@ -6,6 +6,7 @@ use crate::entry::{Entry, entry_at, sooner};
 use crate::roll::Roll;
 
 // The front among the places below `end`, with its key.
+#[tactic(auto, using(crate::proofs::Joins::search_step))]
 pub(crate) fn front_below<R: Roll>(roll: &R, end: usize) -> Option<Entry>
     ensures answers_their_front { result ≡ front_entry (take end (R.Roll.keys roll.now)) }
 {
@@ -17,8 +18,7 @@ pub(crate) fn front_below<R: Roll>(roll: &R, end: usize) -> Option<Entry>
 }
 
 // Every list of keys has one front and no other. Nothing is computed: the promise is the theorem.
-pub fn every_list_has_one_front() -> u8
+#[tactic(auto, using(crate::proofs::Fronts::one_front))]
+pub fn every_list_has_one_front()
     ensures one_front { OneFront }
-{
-    0
-}
+{}

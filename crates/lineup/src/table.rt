@@ -3,8 +3,6 @@ ghost use Rattle.std.specs.Prelude.{◌≡◌, length, refl};
 ghost use Rattle.lineup.specs.Rolls.{table_places, no_keys};
 ghost use Rattle.lineup.specs.Sizes.{as_many};
 
-use crate::entry::place_of;
-use crate::keys::key_in;
 use crate::refusal::RollRefusal;
 use crate::roll::{LineUp, Roll};
 use crate::search::front_below;
@@ -21,7 +19,7 @@ pub struct Table {
 impl Table {
     // A table without a key.
     pub fn new() -> Self
-        ensures is_empty { result.keys ≡ no_keys table_places }
+        ensures is_empty { ⟦<Table as Roll>⟧.keys result ≡ no_keys table_places }
     {
         Table {
             keys: [None; PLACES],
@@ -39,29 +37,27 @@ impl Roll for Table {
     }
 
     fn key_of(&self, place: usize) -> Option<u64> {
-        key_in(&self.keys, place)
+        *self.keys.get(place)?
     }
 
     fn put(&mut self, place: usize, key: u64) -> Result<(), RollRefusal> {
         if place >= PLACES {
             return Err(RollRefusal::NoPlace);
         }
+        // by its index: of what is written through a slice's `get_mut` a proof knows nothing afterwards
         self.keys[place] = Some(key);
         Ok(())
     }
 
     fn take_out(&mut self, place: usize) -> Option<u64> {
-        if place >= PLACES {
-            return None;
-        }
-        let key = self.keys[place];
+        let key = self.key_of(place)?;
         self.keys[place] = None;
-        key
+        Some(key)
     }
 }
 
 impl LineUp for Table {
     fn front(&self) -> Option<usize> {
-        place_of(front_below(self, PLACES))
+        front_below(self, self.capacity()).map(|e| e.place)
     }
 }

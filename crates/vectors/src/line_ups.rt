@@ -1,7 +1,6 @@
 // Line-ups at their edges, the same cases for each kind.
 use lineup::{Entry, Heap, LineUp, Pair, Roll, RollRefusal, Table, clear, front_with_key};
 use std::process::Abort;
-use std::test::Fail;
 
 // A pair of a table and a heap, 64 places, and one of two heaps, 64 of their 96.
 type Hall = Pair<Table, Heap>;
@@ -14,6 +13,16 @@ fn hall() -> Hall {
 
 fn heaps() -> Heaps {
     Pair::new(Heap::new(), Heap::new())
+}
+
+// Tries a case on a line-up of each kind, none of which has a key.
+macro_rules! of_each_kind {
+    ($rt:expr, $case:ident) => {
+        $case($rt, "table", &mut Table::new());
+        $case($rt, "heap", &mut Heap::new());
+        $case($rt, "table and heap", &mut hall());
+        $case($rt, "two heaps", &mut heaps());
+    };
 }
 
 // Among equal keys the lowest place is in front, in whatever sequence they were put.
@@ -30,10 +39,7 @@ fn lowest_of_equals<L: LineUp>(rt: &impl Abort, kind: &str, line: &mut L) {
 
 #[test]
 fn the_lowest_of_equals_is_in_front(rt: HostRuntime) {
-    lowest_of_equals(&rt, "table", &mut Table::new());
-    lowest_of_equals(&rt, "heap", &mut Heap::new());
-    lowest_of_equals(&rt, "table and heap", &mut hall());
-    lowest_of_equals(&rt, "two heaps", &mut heaps());
+    of_each_kind!(&rt, lowest_of_equals);
 }
 
 // Key 0 and the largest key are keys like any other.
@@ -52,10 +58,7 @@ fn least_and_largest_key<L: LineUp>(rt: &impl Abort, kind: &str, line: &mut L) {
 
 #[test]
 fn least_and_largest_keys_are_kept(rt: HostRuntime) {
-    least_and_largest_key(&rt, "table", &mut Table::new());
-    least_and_largest_key(&rt, "heap", &mut Heap::new());
-    least_and_largest_key(&rt, "table and heap", &mut hall());
-    least_and_largest_key(&rt, "two heaps", &mut heaps());
+    of_each_kind!(&rt, least_and_largest_key);
 }
 
 // A place with a key gets another, less or more, and moves to the front or away from it.
@@ -77,10 +80,7 @@ fn replaced_keys<L: LineUp>(rt: &impl Abort, kind: &str, line: &mut L) {
 
 #[test]
 fn a_newer_key_replaces_an_older(rt: HostRuntime) {
-    replaced_keys(&rt, "table", &mut Table::new());
-    replaced_keys(&rt, "heap", &mut Heap::new());
-    replaced_keys(&rt, "table and heap", &mut hall());
-    replaced_keys(&rt, "two heaps", &mut heaps());
+    of_each_kind!(&rt, replaced_keys);
 }
 
 // All places are filled, every third is taken out from wherever it stands, and the rest comes out by key and then place.
@@ -111,10 +111,7 @@ fn drained<L: LineUp>(rt: &impl Abort, kind: &str, line: &mut L) {
 
 #[test]
 fn what_is_left_comes_out_in_sequence(rt: HostRuntime) {
-    drained(&rt, "table", &mut Table::new());
-    drained(&rt, "heap", &mut Heap::new());
-    drained(&rt, "table and heap", &mut hall());
-    drained(&rt, "two heaps", &mut heaps());
+    of_each_kind!(&rt, drained);
 }
 
 // Places past the capacity, near and far: put is refused, and nothing changes.
@@ -142,10 +139,7 @@ fn out_of_range<L: LineUp>(rt: &impl Abort, kind: &str, line: &mut L) {
 
 #[test]
 fn places_out_of_range_are_refused(rt: HostRuntime) {
-    out_of_range(&rt, "table", &mut Table::new());
-    out_of_range(&rt, "heap", &mut Heap::new());
-    out_of_range(&rt, "table and heap", &mut hall());
-    out_of_range(&rt, "two heaps", &mut heaps());
+    of_each_kind!(&rt, out_of_range);
 }
 
 #[test]
@@ -193,21 +187,15 @@ fn a_pair_made_empty_and_one_made_as_it_is(rt: HostRuntime) {
 }
 
 #[test]
-fn the_front_with_its_key(rt: HostRuntime) -> Result<(), Fail> {
+fn the_front_with_its_key(rt: HostRuntime) {
     let mut line = hall();
-    assert!(rt; front_with_key(&line).is_none());
+    assert_eq!(rt; front_with_key(&line), None);
     assert_eq!(rt; line.put(40, 6), Ok(()));
     assert_eq!(rt; line.put(3, 6), Ok(()));
-    let Some(Entry { place, key }) = front_with_key(&line) else {
-        assert!(rt; false);
-        return Ok(());
-    };
-    assert_eq!(rt; place, 3);
-    assert_eq!(rt; key, 6);
-    Ok(())
+    assert_eq!(rt; front_with_key(&line), Some(Entry { place: 3, key: 6 }));
 }
 
 #[test]
 fn the_refusal_has_its_number(rt: HostRuntime) {
-    assert_eq!(rt; RollRefusal::NoPlace.number(), 40);
+    assert_eq!(rt; u8::from(RollRefusal::NoPlace), 40);
 }

@@ -5,7 +5,4 @@ use Rattle.lineup.proofs.heap.HeapLineUp.front.Goals as goal
 pub returns : goal.returns
 returns c =
     let h = c.args.self.now in
-    let o = h.order in
-    record {
-      answers_the_front = c.root.ensures.answers_the_root ∙ root_is_front h.keys o.places o.positions h.len h.wide h.members o.placed o.back o.forth h.heaped;
-    }
+    record { answers_the_front = c.root.ensures.answers_the_root ∙ root_is_front h.tree h.heaped }
