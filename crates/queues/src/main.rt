@@ -8,22 +8,20 @@ const SEED: u64 = 2026;
 
 const CALLS: usize = 6000;
 
+// How many of the calls are of a kind.
+fn count<F: Fn(&Step) -> bool>(steps: &[Step], is_of_kind: F) -> usize
+    requires can_be_asked { F.IsAlwaysCallable is_of_kind }
+{
+    steps.iter().filter(|step| is_of_kind(step)).count()
+}
+
 // Says how many calls there are of each kind.
 fn show_calls(rt: &HostRuntime, steps: &[Step]) -> anyhow::Result<()> {
-    let mut puts: u64 = 0;
-    let mut take_outs: u64 = 0;
-    let mut keys: u64 = 0;
-    let mut fronts: u64 = 0;
-    let mut clears: u64 = 0;
-    for step in steps {
-        match step {
-            Step::Put { .. } => puts = puts.saturating_add(1),
-            Step::TakeOut { .. } => take_outs = take_outs.saturating_add(1),
-            Step::KeyOf { .. } => keys = keys.saturating_add(1),
-            Step::Front => fronts = fronts.saturating_add(1),
-            Step::Clear => clears = clears.saturating_add(1),
-        }
-    }
+    let puts = count(steps, |step| matches!(step, Step::Put { .. }));
+    let take_outs = count(steps, |step| matches!(step, Step::TakeOut { .. }));
+    let keys = count(steps, |step| matches!(step, Step::KeyOf { .. }));
+    let fronts = count(steps, |step| matches!(step, Step::Front));
+    let clears = count(steps, |step| matches!(step, Step::Clear));
     println!(rt;
         "{} calls, drawn from the seed {SEED}, the same for each line-up",
         steps.len()
@@ -66,7 +64,7 @@ fn drive_all(rt: &HostRuntime) -> anyhow::Result<()> {
     let low = Pair::new(Table::new(), Table::new());
     let high = Pair::new(Heap::new(), Table::new());
     let pairs = drive(rt, "pair of two pairs", &mut Pair::new(low, high), &steps)?;
-    if table == 0 && heap == 0 && pair == 0 && pairs == 0 {
+    if [table, heap, pair, pairs] == [0; 4] {
         println!(rt; "all agreed with the plain scan")?;
     } else {
         println!(rt; "NOT all agreed with the plain scan")?;

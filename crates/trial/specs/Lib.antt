@@ -1,4 +1,3 @@
 pub mod Draws
-pub mod Sizes
 pub mod Steps
 pub mod Tallies

@@ -23,6 +23,7 @@ fn place_in(number: usize) -> usize
 }
 
 // A key: below 49, so that many are equal, or the largest that there is.
+// Not one function with place_in: the types and what lies past the limit differ, so that all would be parameters.
 fn key_in(number: u64) -> u64
     ensures is_the_key { result ≡ key_in number }
 {
@@ -36,17 +37,12 @@ pub fn step_of(number: u64) -> Step
 {
     let place = place_in((number >> 16) as usize);
     let key = key_in(number >> 32);
-    let kind = number >> 56;
-    if kind < 128 {
-        Step::Put { place, key }
-    } else if kind < 192 {
-        Step::TakeOut { place }
-    } else if kind < 224 {
-        Step::KeyOf { place }
-    } else if kind < 254 {
-        Step::Front
-    } else {
-        Step::Clear
+    match number >> 56 {
+        0..=127 => Step::Put { place, key },
+        128..=191 => Step::TakeOut { place },
+        192..=223 => Step::KeyOf { place },
+        224..=253 => Step::Front,
+        _ => Step::Clear,
     }
 }
 

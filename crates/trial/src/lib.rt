@@ -10,5 +10,5 @@ mod tally;
 pub use draw::{draw_steps, step_of};
 pub use scan::Scan;
 pub use side_by_side::compare;
-pub use step::{Answer, Step, apply};
+pub use step::{Answer, Step, apply, equal_answers_are_the_same};
 pub use tally::Tally;

@@ -5,7 +5,7 @@ ghost use Rattle.trial.specs.Steps.{answer_to, is_none, is_refused, keys_after, 
 use lineup::{LineUp, Roll, RollRefusal, clear};
 
 // A call: one of the roll's or the line-up's own, or that of all places to be taken out.
-#[derive(Clone, Copy)]
+#[derive(Clone, Copy, Debug, PartialEq, Eq)]
 pub enum Step {
     Put { place: usize, key: u64 },
     TakeOut { place: usize },
@@ -15,7 +15,7 @@ pub enum Step {
 }
 
 // What a call answers.
-#[derive(Clone, Copy)]
+#[derive(Clone, Copy, Debug, PartialEq, Eq)]
 pub enum Answer {
     // that it was done, or why not
     Done(Result<(), RollRefusal>),
@@ -25,7 +25,7 @@ pub enum Answer {
     Place(Option<usize>),
 }
 
-// Makes a call.
+// Makes a call. Calls are values and not closures, so that what a list of calls answers can be defined call by call.
 pub fn apply<L: LineUp>(line: &mut L, step: Step) -> Answer
     ensures answers { result ≡ answer_to (L.Roll.keys line.old) step }
     ensures leaves { L.Roll.keys line.new ≡ keys_after (L.Roll.keys line.old) step }
@@ -43,36 +43,23 @@ pub fn apply<L: LineUp>(line: &mut L, step: Step) -> Answer
 }
 
 impl Answer {
-    // Whether another answer is the same.
-    pub fn same(self, other: Answer) -> bool
-        ensures tells { result ≡ same_answer self other }
-    {
-        match (self, other) {
-            (Answer::Done(a), Answer::Done(b)) => a.is_ok() == b.is_ok(),
-            (Answer::Key(a), Answer::Key(b)) => a == b,
-            (Answer::Place(a), Answer::Place(b)) => a == b,
-            _ => false,
-        }
-    }
-
     // Whether the call was refused.
     pub fn is_refused(self) -> bool
         ensures tells { result ≡ is_refused self }
     {
-        match self {
-            Answer::Done(done) => done.is_err(),
-            _ => false,
-        }
+        matches!(self, Answer::Done(Err(_)))
     }
 
     // Whether a key or a place was asked for, and none was there.
     pub fn is_none(self) -> bool
         ensures tells { result ≡ is_none self }
     {
-        match self {
-            Answer::Key(key) => key.is_none(),
-            Answer::Place(place) => place.is_none(),
-            Answer::Done(_) => false,
-        }
+        matches!(self, Answer::Key(None) | Answer::Place(None))
     }
 }
+
+// What `==` tells of two answers is whether they are the same.
+#[tactic(auto, using(crate::proofs::Runs::eq_is_same))]
+pub fn equal_answers_are_the_same()
+    ensures equality { (a b : Answer) → ⟦<Answer as PartialEq>⟧.eq a b ≡ same_answer a b }
+{}

@@ -5,7 +5,7 @@ ghost use Rattle.trial.specs.Tallies.{counted, count_if, no_calls};
 use crate::step::Answer;
 
 // How many calls were made, were refused and found none, and in how many two line-ups answered differently.
-#[derive(Clone, Copy)]
+#[derive(Clone, Copy, Debug, Default, PartialEq, Eq)]
 pub struct Tally {
     pub calls: u64,
     pub refused: u64,
@@ -17,7 +17,7 @@ pub struct Tally {
 fn count_if(so: bool, count: u64) -> u64
     ensures counts { result ≡ count_if so count }
 {
-    if so { count.saturating_add(1) } else { count }
+    count.saturating_add(u64::from(so))
 }
 
 impl Tally {
@@ -25,12 +25,7 @@ impl Tally {
     pub fn new() -> Self
         ensures is_empty { result ≡ no_calls }
     {
-        Tally {
-            calls: 0,
-            refused: 0,
-            none: 0,
-            differing: 0,
-        }
+        Tally::default()
     }
 
     // One call more: the answer to it, and that of another line-up.
@@ -40,6 +35,6 @@ impl Tally {
         self.calls = count_if(true, self.calls);
         self.refused = count_if(answer.is_refused(), self.refused);
         self.none = count_if(answer.is_none(), self.none);
-        self.differing = count_if(!answer.same(other), self.differing);
+        self.differing = count_if(answer != other, self.differing);
     }
 }

@@ -1,7 +1,0 @@
-use Rattle.std.proofs.Common.{◌≡◌, take, vec_items}
-use Rattle.lineup.specs.Front.{front_entry}
-use Rattle.trial.proofs.scan.ScanLineUp.front.Given as goal
-
--- the best so far is the front of the places looked at
-abbrev pub invariant-loop-place : goal.invariant-loop-place
-invariant-loop-place l = l.best ≡ front_entry (take l.place (vec_items l.self.keys))
