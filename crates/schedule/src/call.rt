@@ -3,7 +3,7 @@
 // A tick is the feed of one millimetre of paper; clocks, dues and stamps count ticks.
 
 // One of the six calls.
-#[derive(Clone, Copy)]
+#[derive(Clone, Copy, Debug, PartialEq, Eq)]
 pub enum Call {
     // opens a session at a station, with a share of the printer in ten-thousandths
     Link {
@@ -13,6 +13,7 @@ pub enum Call {
     // orders copies of a picture in a format
     Order {
         session: u64,
+        // any byte, since what is no format's code has to be refused
         format: u8,
         copies: u8,
     },
@@ -33,7 +34,7 @@ pub enum Call {
 }
 
 // What an accepted call answers.
-#[derive(Clone, Copy)]
+#[derive(Clone, Copy, Debug, PartialEq, Eq)]
 pub enum Answer {
     // the new session's number
     Linked {
@@ -49,6 +50,7 @@ pub enum Answer {
         session: u64,
         number: u64,
         station: u8,
+        // the format's code, which is all that a slip or a printer has of it
         format: u8,
         copies: u8,
         len: u16,

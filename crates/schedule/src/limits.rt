@@ -26,7 +26,7 @@ pub const RING: usize = 8;
 pub fn check_share(share: u16) -> Result<(), Refusal>
     ensures refuses_shares_out_of_range { result ≡ unless (first_of ((bad_share share, ShareOutOfRange) ∷ [])) tt }
 {
-    if share < LEAST_SHARE || share > UNIT {
+    if !(LEAST_SHARE..=UNIT).contains(&share) {
         return Err(Refusal::ShareOutOfRange);
     }
     Ok(())
@@ -46,21 +46,21 @@ pub fn check_ring(waiting: usize) -> Result<(), Refusal>
 pub fn grown_life(life: u64, growth: u64) -> Result<u64, Refusal>
     ensures is_the_sum_within_the_limit { result ≡ unless (first_of ((life_over life growth, LifeOver) ∷ [])) (life + growth) }
 {
-    let sum = life.saturating_add(growth);
-    if sum > LIFE_LIMIT {
-        return Err(Refusal::LifeOver);
-    }
-    Ok(sum)
+    life.checked_add(growth)
+        .filter(|sum| *sum <= LIFE_LIMIT)
+        .ok_or(Refusal::LifeOver)
 }
 
 // The span of a length: its time on a printer of one share, rounded up to whole ticks; 0 at no share.
+#[tactic(auto, unfolding(crate::specs::Orders::span_of), using(crate::proofs::Spans::ceil_is, crate::proofs::Spans::length_within_span))]
 pub fn span(len: u16, share: u16) -> u64
     ensures is_the_span { result ≡ span_of len share }
     ensures covers_the_length { 0 < share → len * unit ≤ share * result }
     ensures has_no_tick_too_many { 0 < share → share * result < len * unit + share }
+    ensures is_no_faster_than_the_printer { 0 < share → share ≤ unit → len ≤ result }
 {
     if share == 0 {
         return 0;
     }
-    (len as u64 * UNIT as u64).div_ceil(share as u64)
+    (u64::from(len) * u64::from(UNIT)).div_ceil(u64::from(share))
 }

@@ -1,8 +1,9 @@
 // What a station keeps.
 
 // An order that waits at a station.
-#[derive(Clone, Copy)]
+#[derive(Clone, Copy, Debug, PartialEq, Eq)]
 pub struct Order {
+    // the format's code: a station is kept as a row of plain numbers
     pub format: u8,
     pub copies: u8,
     // when its session's private printer, as fast as the session's share, would end it
@@ -10,7 +11,7 @@ pub struct Order {
 }
 
 // What a station is doing.
-#[derive(Clone, Copy)]
+#[derive(Clone, Copy, Debug, PartialEq, Eq)]
 pub enum State {
     // never linked
     Empty,

@@ -37,11 +37,11 @@ pub enum Refusal {
     OutOfReach = 34,
 }
 
-impl Refusal {
-    // The number that messages and slips show.
-    pub fn number(self) -> u8
-        ensures is_its_number { result ≡ number_of self }
-    {
-        self as u8
+// The number that messages and slips show.
+impl From<Refusal> for u8 {
+    ghost from_gives = { λ refusal number. number ≡ number_of refusal };
+
+    fn from(refusal: Refusal) -> u8 {
+        refusal as u8
     }
 }
