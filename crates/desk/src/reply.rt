@@ -1,5 +1,5 @@
 // The desk's replies, and how each is shown in words.
-ghost use Rattle.std.specs.Prelude.{◌∷◌, ◌++◌, Some, decimal};
+ghost use Rattle.std.specs.Prelude.{◌++◌, Some, codes, decimal};
 ghost use Rattle.claim.specs.Code.{largest};
 ghost use Rattle.desk.specs.Replies.{answered, replied, in_words, refused};
 
@@ -45,7 +45,7 @@ struct Refused {
 
 // The words that follow what was typed.
 impl fmt::Display for Refused {
-    ghost output = { λ r. Some (refused r.why (r.demand.now ++ (32 ∷ decimal largest))) };
+    ghost output = { λ r. Some (refused r.why (r.demand.now ++ (codes " " ++ decimal largest))) };
 
     fn fmt<W: fmt::Write>(&self, f: &mut fmt::Formatter<W>) -> fmt::Result {
         let Refused { why, demand } = *self;
