@@ -98,6 +98,7 @@ impl Roll for Heap {
 }
 
 impl LineUp for Heap {
+    #[tactic(auto, using(crate::proofs::Heaped::root_is_front))]
     fn front(&self) -> Option<usize> {
         self.tree.root()
     }

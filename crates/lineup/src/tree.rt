@@ -87,7 +87,7 @@ impl Tree {
     }
 
     // Moves what stands at `at` to where it belongs, up or down. Behind the tree there is nothing to move.
-    #[tactic(auto, using(crate::proofs::Sifts::up_around, crate::proofs::Sifts::up_across, crate::proofs::Sifts::down_but, crate::proofs::Sifts::down_across))]
+    #[tactic(auto, using(crate::proofs::Sifts::down_but, crate::proofs::Sifts::down_across))]
     pub(crate) fn settle(&mut self, at: usize)
         requires but_around { ButAround (ranks self.old) self.old.len at }
         requires across { Across (ranks self.old) self.old.len at }
