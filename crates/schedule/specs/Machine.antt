@@ -144,94 +144,22 @@ waiting_at st = cond (is_linked st.state) st.orders []
 -- PARTS OF THE STEPS: each changes what its name says and nothing else
 
 abbrev pub with_station : ℕ → Station → Machine → Machine
-with_station p st m =
-    record {
-      capacity = m.capacity;
-      run = m.run;
-      shift = m.shift;
-      left = m.left;
-      due = m.due;
-      life = m.life;
-      next_session = m.next_session;
-      stations = slice_set m.stations p st;
-      stamps = m.stamps;
-      ideals = m.ideals;
-    }
+with_station p st m = record m { stations = slice_set m.stations p st }
 
 abbrev pub with_keys : ℕ → Option ℕ → Option ℕ → Machine → Machine
-with_keys p stamp ideal m =
-    record {
-      capacity = m.capacity;
-      run = m.run;
-      shift = m.shift;
-      left = m.left;
-      due = m.due;
-      life = m.life;
-      next_session = m.next_session;
-      stations = m.stations;
-      stamps = slice_set m.stamps p stamp;
-      ideals = slice_set m.ideals p ideal;
-    }
+with_keys p stamp ideal m = record m { stamps = slice_set m.stamps p stamp; ideals = slice_set m.ideals p ideal }
 
 abbrev pub with_shift : ℕ → Machine → Machine
-with_shift shift m =
-    record {
-      capacity = m.capacity;
-      run = m.run;
-      shift = shift;
-      left = m.left;
-      due = m.due;
-      life = m.life;
-      next_session = m.next_session;
-      stations = m.stations;
-      stamps = m.stamps;
-      ideals = m.ideals;
-    }
+with_shift shift m = record m { shift = shift }
 
 abbrev pub with_feed : ℕ → ℕ → Machine → Machine
-with_feed left due m =
-    record {
-      capacity = m.capacity;
-      run = m.run;
-      shift = m.shift;
-      left = left;
-      due = due;
-      life = m.life;
-      next_session = m.next_session;
-      stations = m.stations;
-      stamps = m.stamps;
-      ideals = m.ideals;
-    }
+with_feed left due m = record m { left = left; due = due }
 
 abbrev pub with_life : ℕ → Machine → Machine
-with_life life m =
-    record {
-      capacity = m.capacity;
-      run = m.run;
-      shift = m.shift;
-      left = m.left;
-      due = m.due;
-      life = life;
-      next_session = m.next_session;
-      stations = m.stations;
-      stamps = m.stamps;
-      ideals = m.ideals;
-    }
+with_life life m = record m { life = life }
 
 abbrev pub with_next_session : ℕ → Machine → Machine
-with_next_session session m =
-    record {
-      capacity = m.capacity;
-      run = m.run;
-      shift = m.shift;
-      left = m.left;
-      due = m.due;
-      life = m.life;
-      next_session = session;
-      stations = m.stations;
-      stamps = m.stamps;
-      ideals = m.ideals;
-    }
+with_next_session session m = record m { next_session = session }
 
 -- LINK a station at a share
 
@@ -272,16 +200,7 @@ new_order format copies st m =
 
 -- it waits behind the others, and its due is the last
 abbrev pub with_order : Order → Station → Station
-with_order o st =
-    record {
-      state = st.state;
-      share = st.share;
-      session = st.session;
-      accepted = st.accepted + 1;
-      last_due = o.due;
-      stamp = 0;
-      orders = st.orders ++ (o ∷ []);
-    }
+with_order o st = record st { accepted = st.accepted + 1; last_due = o.due; stamp = 0; orders = st.orders ++ (o ∷ []) }
 
 -- the shift clock, if lower, rises to the earliest ideal start; where no station waits it stays
 abbrev pub raised : Machine → Machine
@@ -318,21 +237,11 @@ settled stamp m = with_shift (cond (any_waits m) m.shift (max m.shift stamp)) m
 
 -- a blank is passed over: the station cools, with its stamp in its record
 abbrev pub cooled : ℕ → Station → Station
-cooled stamp st =
-    record { state = Cooling; share = st.share; session = st.session; accepted = st.accepted; last_due = st.last_due; stamp = stamp; orders = [] }
+cooled stamp st = record st { state = Cooling; stamp = stamp; orders = [] }
 
 -- the station with these orders and this stamp in its record
 abbrev pub with_orders : List Order → ℕ → Station → Station
-with_orders orders stamp st =
-    record {
-      state = st.state;
-      share = st.share;
-      session = st.session;
-      accepted = st.accepted;
-      last_due = st.last_due;
-      stamp = stamp;
-      orders = orders;
-    }
+with_orders orders stamp st = record st { stamp = stamp; orders = orders }
 
 -- if orders remain, the ideal start becomes the stamp, and the stamp grows by the new head's span; if none, the station waits no more
 abbrev pub requeued : ℕ → ℕ → Station → List Order → Machine → Machine
@@ -372,19 +281,7 @@ pass_conditions ticks m =
 
 -- both clocks and life grow by the ticks, and the feed shrinks by them
 abbrev pub passed : ℕ → Machine → Machine
-passed ticks m =
-    record {
-      capacity = m.capacity;
-      run = m.run + ticks;
-      shift = m.shift + ticks;
-      left = m.left - ticks;
-      due = m.due;
-      life = m.life + ticks;
-      next_session = m.next_session;
-      stations = m.stations;
-      stamps = m.stamps;
-      ideals = m.ideals;
-    }
+passed ticks m = record m { run = m.run + ticks; shift = m.shift + ticks; left = m.left - ticks; life = m.life + ticks }
 
 -- SHIFT to a value
 
@@ -403,16 +300,7 @@ left_behind (o ∷ os) = Leaving
 
 -- the waiting orders are erased; a stamp and an ideal start that are keys stay so
 abbrev pub unlinked_station : Station → Station
-unlinked_station st =
-    record {
-      state = left_behind st.orders;
-      share = st.share;
-      session = st.session;
-      accepted = st.accepted;
-      last_due = st.last_due;
-      stamp = st.stamp;
-      orders = [];
-    }
+unlinked_station st = record st { state = left_behind st.orders; orders = [] }
 
 abbrev pub unlinked_at : ℕ → Machine → Machine
 unlinked_at p m = with_station p (unlinked_station (station_at p m)) m
