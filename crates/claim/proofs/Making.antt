@@ -1,13 +1,16 @@
 -- What making a code writes, and that reading takes it back.
-use Rattle.std.proofs.Common.{◌≡◌, ℕ, ◌+◌, ◌-◌, ◌<◌, ◌≤◌, true, [], ◌∷◌, length, get_or, Ok, decimal, sym, ap, ◌∙◌, arith, length-append, rules}
+use Rattle.std.proofs.Common.{◌≡◌, ℕ, ◌+◌, ◌-◌, ◌<◌, ◌≤◌, Bool, true, false, List, [], ◌∷◌, length, get_or, Ok, decimal, sym, refl, ap, ◌∙◌, arith, length-append, rules}
+use Rattle.std.specs.Prelude.{nat_le, nat_lt}
 use Rattle.std.specs.Str.{all_ascii_digits}
+use Rattle.std.proofs.lemmas.Bool.{and_parts, ltb-true, leb-true}
 use Rattle.std.proofs.lemmas.List.{take_at, get_or_at, get_or_append_left}
 use Rattle.std.proofs.lemmas.Str.Ascii.{encode_ascii}
 use Rattle.std.proofs.lemmas.Fmt.{length-decimal-le, decimal_nonempty, first_decimal, digits_decimal, digits_value-decimal}
+use Rattle.claim.specs.declared.refusal.CodeRefusal.TheVariants.{BadNumber}
 use Rattle.claim.specs.Luhn.{check_digit}
-use Rattle.claim.specs.Code.{widest, largest, digits_in, code_of, value_after, front, number_in, reading}
+use Rattle.claim.specs.Code.{widest, longest, largest, digits_in, code_of, coded, making, value_after, front, number_in, reading}
 use Rattle.claim.proofs.Numbers.{numerals}
-use Rattle.claim.proofs.Reading.{WellFormed, Checked, accepted, digits_append}
+use Rattle.claim.proofs.Reading.{WellFormed, Checked, accepted, never, digits_append}
 
 -- the byte of a number's check digit
 abbrev check_byte : ℕ → ℕ
@@ -53,5 +56,21 @@ module _ (n : ℕ) (some : 0 < n) (small : n ≤ largest) where
       } in
       accepted (code_of n) good right ∙ ap (λ k. Ok k) number
 
+  -- and it is no longer than the longest
+  pub code_short : length (code_of n) ≤ longest
+  code_short = omega (arith, length_code n, digits_short)
+
+-- a number that has a code is in range
+pub in_range : (n : ℕ) → coded n ≡ true → (0 < n) × (n ≤ largest)
+in_range n h = let p = and_parts (nat_lt 0 n) (nat_le n largest) h in (ltb-true 0 n p.0, leb-true n largest p.1)
+
+-- only a number that has a code is made
+pub on_made : (n k : ℕ) (out : List ℕ) → Ok k ≡ making n out → coded n ≡ true
+on_made n k out h = by (coded n) refl
+  where
+    by : (t : Bool) → coded n ≡ t → coded n ≡ true
+    by true e = e
+    by false e = absurd (never k BadNumber (h ∙ rw e))
+
 -- what `code` needs of its number's digits
-pub ruleset of_a_code = (digits_short, digits_all, code_reads, encode_ascii)
+pub ruleset of_a_code = (in_range, digits_short, digits_all, code_short, code_reads, encode_ascii)

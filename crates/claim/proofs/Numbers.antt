@@ -1,11 +1,11 @@
 -- Texts of decimal digits, and the numbers that they write.
-use Rattle.std.proofs.Common.{◌≡◌, ℕ, ◌+◌, ◌-◌, ◌*◌, ◌^◌, ◌<◌, min, Bool, true, false, ltb, List, [], ◌∷◌, length, get_or, Some, None, Option, refl, ap, ◌∙◌, arith, rules}
+use Rattle.std.proofs.Common.{◌≡◌, ℕ, ◌+◌, ◌-◌, ◌*◌, ◌^◌, ◌<◌, ◌≤◌, min, Bool, true, false, ltb, List, [], ◌∷◌, length, get_or, Some, None, Option, refl, ap, ◌∙◌, ⊎_elim, arith, rules}
 use Rattle.std.specs.Char.{is_ascii_digit}
 use Rattle.std.specs.Int.{IsInRange}
 use Rattle.std.specs.List.{fold}
 use Rattle.std.specs.Str.{all_ascii_digits}
 use Rattle.std.proofs.lemmas.Str.Parse.{IsNumeralModel, numerals_by_fold, tells_all_ascii_digits, digit_at}
-use Rattle.std.proofs.lemmas.Bool.{lt-ltb, ltb-true}
+use Rattle.std.proofs.lemmas.Bool.{cases_lt, lt-ltb, ltb-true}
 use Rattle.std.proofs.lemmas.List.{get_or_default}
 use Rattle.std.proofs.lemmas.List.Recursion.{and_is}
 use Rattle.claim.specs.Code.{digits_in, value_after, value_up_to}
@@ -21,6 +21,19 @@ told_by bs = and_is all_ascii_digits is_ascii_digit refl (λ _ _. refl) bs 0
 -- each byte of a text of digits is a digit's
 pub digit_byte : (bs : List ℕ) (i d : ℕ) → all_ascii_digits bs ≡ true → i < length bs → IsInRange 48 57 (get_or bs i d)
 digit_byte bs i d digits lt = let same = get_or_default bs i d 0 lt in rw same (digit_at bs i (numerals.to bs digits) lt)
+
+-- digits after m write at least m
+pub value_after_ge : (m : ℕ) (ds : List ℕ) → m ≤ value_after m ds
+value_after_ge m [] = omega arith
+value_after_ge m (d ∷ ds) = omega (arith, value_after_ge (10 * m + d) ds)
+
+-- a number cut to a limit before the last digits came is cut to the same limit after them
+pub cut_before : (limit m : ℕ) (ds : List ℕ) → min limit (value_after (min m limit) ds) ≡ min limit (value_after m ds)
+cut_before limit m ds =
+    ⊎_elim
+    (λ (h : m < limit). let same : min m limit ≡ m = omega arith in ap (λ k. min limit (value_after k ds)) same)
+    (λ (h : limit ≤ m). omega (arith, value_after_ge (min m limit) ds, value_after_ge m ds))
+    (cases_lt m limit)
 
 -- reading digit by digit, cut to a limit at each, gives the number cut to the limit
 reads_on : (max m : ℕ) (bs : List ℕ) → fold (λ n b. min (min (n * 10) max + (b - 48)) max) (min max m) bs ≡ min max (value_after m (digits_in bs))

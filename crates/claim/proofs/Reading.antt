@@ -81,6 +81,10 @@ on_accepted code n h = by (well_formed code) refl (checked code) refl
     by true e false f = absurd (never n BadCheck (sym h ∙ rw (e, f)))
     by false e u f = absurd (never n BadNumber (sym h ∙ rw e))
 
+-- a text that is read as a number is digits
+pub digits_of_code : (code : List ℕ) (n : ℕ) → reading code ≡ Ok n → all_ascii_digits code ≡ true
+digits_of_code code n h = (on_accepted code n h).good.digits
+
 -- a text is its front and its last byte
 pub ends : (code : List ℕ) → 0 < length code → code ≡ front code ++ (last_of code ∷ [])
 ends code some =

@@ -28,6 +28,14 @@ fn weigh(digit: u8, i: usize, len: usize) -> u8
     if to_the_right % 2 == 0 { double(d) } else { d }
 }
 
+// The last digit of the sum of two digits; a remainder costs more, and a sum is made for each digit that is read.
+fn last_digit(sum: u8) -> u8
+    requires { sum < 20 }
+    ensures is_the_last_digit { result ≡ sum % 10 }
+{
+    if sum < 10 { sum } else { sum - 10 }
+}
+
 // A text in which each byte is a decimal digit.
 #[derive(Clone, Copy)]
 pub(crate) struct Digits<'a> {
@@ -55,7 +63,7 @@ impl Digits<'_> {
     {
         let mut sum = 0;
         for (i, digit) in self.text.iter().enumerate() {
-            sum = (sum + weigh(*digit, i, self.text.len())) % 10;
+            sum = last_digit(sum + weigh(*digit, i, self.text.len()));
         }
         sum
     }

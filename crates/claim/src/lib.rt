@@ -3,8 +3,8 @@
 // A customer shows the code to collect an envelope; staff make codes and read them back.
 #![tactic(auto)]
 
-ghost use Rattle.std.specs.Prelude.{◌≡◌, ◌≤◌, true, take, IfOk, if◌then◌else◌, Some, None, Ok, OnOk};
-ghost use Rattle.claim.specs.Code.{longest, bytes_in, coding, making, memory, number_in, well_formed, checked, reading};
+ghost use Rattle.std.specs.Prelude.{◌≡◌, ◌≤◌, true, length, take, IfOk, if◌then◌else◌, Some, None, Ok, OnOk};
+ghost use Rattle.claim.specs.Code.{longest, bytes_in, coded, coding, making, memory, number_in, well_formed, checked, reading};
 ghost use Rattle.claim.specs.Laws.{CodeOf, Guarded, WorkedExamples};
 
 mod digits;
@@ -22,13 +22,21 @@ pub const LARGEST: u64 = 1 << 60;
 // The most digits of a code: those of a session number, at most 19, and the check digit.
 pub const LONGEST: usize = 20;
 
+// Whether a session can have the number, and so a code.
+fn has_code(number: u64) -> bool
+    ensures tells { result ≡ coded number }
+{
+    (1..=LARGEST).contains(&number)
+}
+
 // The number's code, as text.
 #[tactic(auto, using(crate::proofs::Making::of_a_code))]
 pub fn code(number: u64) -> Result<ArrayString<LONGEST>, CodeRefusal>
     ensures answers_the_code { bytes_in result ≡ coding number }
+    ensures at_most_the_longest { IfOk result (λ t. length t.bytes ≤ longest) }
     ensures reads_back { IfOk result (λ t. reading t.bytes ≡ Ok number) }
 {
-    if number == 0 || number > LARGEST {
+    if !has_code(number) {
         return Err(CodeRefusal::BadNumber);
     }
     let mut buffer = Buffer::new();
@@ -44,16 +52,17 @@ pub fn code(number: u64) -> Result<ArrayString<LONGEST>, CodeRefusal>
 
 // Writes the number's code at the front of `out`, and answers its length.
 // Only the code's own bytes are written; a refusal writes nothing. The memory is the caller's, so its length and the code's stay two numbers.
+// Room is looked for before the code is made, so that a refusal costs no code.
 pub fn make(number: u64, out: &mut [u8]) -> Result<usize, CodeRefusal>
     ensures answers_the_length { result ≡ making number out.old }
     ensures at_most_the_longest { IfOk result (λ k. k ≤ longest) }
     ensures writes_only_the_code { out.new ≡ memory number out.old }
     ensures reads_back { IfOk result (λ k. reading (take k out.new) ≡ Ok number) }
 {
-    let code = code(number)?;
-    if out.len() < LONGEST {
+    if has_code(number) && out.len() < LONGEST {
         return Err(CodeRefusal::NoRoom);
     }
+    let code = code(number)?;
     let len = code.len();
     out[..len].copy_from_slice(code.as_str().as_bytes());
     Ok(len)

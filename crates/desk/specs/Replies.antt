@@ -1,5 +1,5 @@
 -- The desk's reply to a line, and how it is shown.
-use Rattle.std.specs.Prelude.{ℕ, cond, List, [], ◌++◌, Ok, Err, codes, decimal, Result}
+use Rattle.std.specs.Prelude.{◌≡◌, ℕ, cond, List, [], ◌++◌, Ok, Err, IfOk, codes, decimal, Result}
 use Rattle.claim.specs.declared.refusal.CodeRefusal.{CodeRefusal}
 use Rattle.claim.specs.declared.refusal.CodeRefusal.TheVariants.{NoRoom, BadNumber, BadCheck}
 use Rattle.claim.specs.Refusals.{number_of}
@@ -60,6 +60,15 @@ replied_by line (Err why) = record { typed = []; outcome = not_understood line w
 -- the plain value of a reply
 abbrev pub replied : Reply → Replied
 replied r = replied_by r.line r.answer
+
+-- the code of a session that is answered is read back as that session
+abbrev pub MadeReadsBack : Made → Type 0
+MadeReadsBack m = reading m.code.bytes ≡ Ok m.session
+
+-- a code that is answered is read back as its session; other answers hold no code
+abbrev pub AnswerReadsBack : Answer → Type 0
+AnswerReadsBack (Make typed outcome) = IfOk outcome MadeReadsBack
+AnswerReadsBack (Read typed session) = Unit
 
 -- the reply by what a line asks; a line that is not understood is named by its number
 abbrev pub reply_by : ℕ → Result Asked Misread → Replied

@@ -1,9 +1,9 @@
 // The claim-code desk: each line of input asks for a claim code or for the session of one, and gets one line of reply.
 #![tactic(auto)]
 
-ghost use Rattle.std.specs.Prelude.{◌≡◌};
+ghost use Rattle.std.specs.Prelude.{◌≡◌, IfOk};
 ghost use Rattle.desk.specs.Requests.{plainly};
-ghost use Rattle.desk.specs.Replies.{replied, answered, make_outcome, make_outcome_by, answer_to, reply_to};
+ghost use Rattle.desk.specs.Replies.{replied, answered, make_outcome, make_outcome_by, answer_to, reply_to, MadeReadsBack, AnswerReadsBack};
 ghost use Rattle.desk.specs.Laws.{FindsEachSession};
 
 mod made;
@@ -17,8 +17,10 @@ pub use reply::{Answer, Reply};
 pub use request::{Misread, Request, understand};
 
 // The session of this number with its claim code.
+#[tactic(auto, using(claim::proofs::Reading::digits_of_code))]
 fn make(number: u64) -> Result<Made, CodeRefusal>
     ensures makes { make_outcome_by result ≡ make_outcome number }
+    ensures reads_back { IfOk result MadeReadsBack }
 {
     let code = claim::code(number)?;
     Ok(Made {
@@ -30,6 +32,7 @@ fn make(number: u64) -> Result<Made, CodeRefusal>
 // The answer to a request.
 fn answer(request: Request<'_>) -> Answer<'_>
     ensures answers { answered result ≡ answer_to (plainly request.entry) }
+    ensures reads_back { AnswerReadsBack result }
 {
     match request {
         Request::Make { typed, number } => Answer::Make {
@@ -47,6 +50,7 @@ fn answer(request: Request<'_>) -> Answer<'_>
 pub fn reply_to(number: u64, line: &[u8]) -> Reply<'_>
     ensures replies { replied result ≡ reply_to number line.now }
     ensures names_the_line { result.line ≡ number }
+    ensures reads_back { IfOk result.answer AnswerReadsBack }
 {
     Reply {
         line: number,

@@ -1,14 +1,15 @@
 // A session with its claim code.
-ghost use Rattle.std.specs.Prelude.{◌≡◌, Ok};
-ghost use Rattle.claim.specs.Code.{reading};
+ghost use Rattle.std.specs.Prelude.{◌≡◌, true};
+ghost use Rattle.std.specs.Str.{all_ascii_digits};
 
 use arrayvec::ArrayString;
 use claim::LONGEST;
 
-// The code is the session's: it is read back as its number.
+// The code is digits, of whatever session: anyone who has two may put the code of one beside the session of the other.
+// That it is the session's own is promised where it is made.
 #[derive(Clone, Copy)]
 pub struct Made {
     pub session: u64,
     pub code: ArrayString<LONGEST>,
-    ghost is_its_code: { reading code.bytes ≡ Ok session },
+    ghost digits: { all_ascii_digits code.bytes ≡ true },
 }

@@ -2,6 +2,7 @@
 use Rattle.std.specs.Prelude.{◌≡◌, ℕ, ◌+◌, List, [], ◌∷◌, ◌++◌, length, take, Some, None, Option, refl}
 use Rattle.std.proofs.Common.{sym, arith, length-take}
 use Rattle.std.proofs.lemmas.List.{get_or_past, take_all, take_more}
+use Rattle.std.proofs.lemmas.Bool.Decides.{nat_tests}
 use Rattle.std.proofs.lemmas.Bool.{cases_lt}
 use Rattle.lineup.specs.declared.entry.Entry.{Entry}
 use Rattle.lineup.specs.Rolls.{key_at}
@@ -15,6 +16,13 @@ front_append xs ys = sym (leads_is (xs ++ ys) _ (leads_append xs ys _ _ (leads_f
 sooner_alone : (a : Option Entry) → sooner_of a None ≡ a
 sooner_alone None = refl
 sooner_alone (Some a) = refl
+
+-- among three, it is all one which two are compared first
+sooner_assoc : (a b c : Option Entry) → sooner_of (sooner_of a b) c ≡ sooner_of a (sooner_of b c)
+sooner_assoc None b c = refl
+sooner_assoc (Some a) None c = refl
+sooner_assoc (Some a) (Some b) None = sooner_alone (sooner_of (Some a) (Some b))
+sooner_assoc (Some a) (Some b) (Some c) = grind (arith, nat_tests)
 
 one_place : (n : ℕ) (o : Option ℕ) → moved n (front_entry (o ∷ [])) ≡ entry_of n o
 one_place n None = refl

@@ -1,10 +1,13 @@
 -- What a swap leaves of a heap.
 use Rattle.std.proofs.Common.{◌≡◌, ℕ, zero, suc, ◌<◌, ◌≤◌, ap, ⊎_elim, arith, rules}
 use Rattle.std.proofs.lemmas.Bool.{cases_lt}
-use Rattle.lineup.specs.Heaps.{parent, IsHeap, ButAround, ButDown, Across, Swapped, LeastChild}
+use Rattle.lineup.specs.Heaps.{parent, IsHeap, ButUp, ButAround, ButDown, Across, Swapped, LeastChild}
 
 -- a swap with the parent
 module _ (f g : ℕ → ℕ) (n i up : ℕ) (above : up < i) (is : parent i ≡ up) (inside : i < n) (s : Swapped f g i up) (less : f i < f up) (but : ButAround f n i) (across : Across f n i) where
+  pub up_but : ButUp g n up
+  up_but j p l ne = grind (arith, s, but, across)
+
   pub up_around : ButAround g n up
   up_around j p l ne na = grind (arith, s, but, across)
 

@@ -16,11 +16,15 @@ rank ks p = unwrap_or (key_at ks p) 0 * most_places + p
 abbrev pub IsHeap : (ℕ → ℕ) → ℕ → Type 0
 IsHeap f n = (j : ℕ) → 0 < j → j < n → f (parent j) ≤ f j
 
+-- a heap but that position i may rank before its parent
+abbrev pub ButUp : (ℕ → ℕ) → ℕ → ℕ → Type 0
+ButUp f n i = (j : ℕ) → 0 < j → j < n → (j ≢ i) → f (parent j) ≤ f j
+
 -- a heap but that the children of position i may rank before it
 abbrev pub ButDown : (ℕ → ℕ) → ℕ → ℕ → Type 0
 ButDown f n i = (j : ℕ) → 0 < j → j < n → (parent j ≢ i) → f (parent j) ≤ f j
 
--- a heap but for that, and but that position i may rank before its parent
+-- a heap but for both
 abbrev pub ButAround : (ℕ → ℕ) → ℕ → ℕ → Type 0
 ButAround f n i = (j : ℕ) → 0 < j → j < n → (j ≢ i) → (parent j ≢ i) → f (parent j) ≤ f j
 

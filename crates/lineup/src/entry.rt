@@ -4,7 +4,6 @@ ghost use Rattle.lineup.specs.Rolls.{key_at};
 ghost use Rattle.lineup.specs.Front.{entry_of, moved, sooner_of};
 
 use crate::roll::Roll;
-use std::cmp::min_by;
 
 // A place with its key.
 #[derive(Clone, Copy, Debug, PartialEq, Eq)]
@@ -17,7 +16,8 @@ pub struct Entry {
 pub(crate) fn entry_at<R: Roll>(roll: &R, place: usize) -> Option<Entry>
     ensures answers_the_entry { result ≡ entry_of place (key_at (R.Roll.keys roll.now) place) }
 {
-    roll.key_of(place).map(|key| Entry { place, key })
+    let key = roll.key_of(place)?;
+    Some(Entry { place, key })
 }
 
 // The first of two, unless the second has a lesser key.
@@ -25,8 +25,9 @@ pub(crate) fn sooner(first: Option<Entry>, second: Option<Entry>) -> Option<Entr
     ensures answers_the_sooner { result ≡ sooner_of first second }
 {
     match (first, second) {
-        (Some(e), Some(f)) => Some(min_by(e, f, |e, f| e.key.cmp(&f.key))),
-        (e, f) => e.or(f),
+        (Some(e), Some(f)) if e.key <= f.key => first,
+        (_, None) => first,
+        _ => second,
     }
 }
 

@@ -39,7 +39,7 @@ impl Permutation {
         ensures swaps_their_positions { Swapped (slice_index self.old.positions) (slice_index self.new.positions)
             (slice_index self.old.places a) (slice_index self.old.places b) }
     {
-        self.places.swap(a, b);
         self.positions.swap(self.places[a], self.places[b]);
+        self.places.swap(a, b);
     }
 }

@@ -50,9 +50,9 @@ impl Roll for Table {
     }
 
     fn take_out(&mut self, place: usize) -> Option<u64> {
-        let key = self.key_of(place)?;
+        let key = *self.keys.get(place)?;
         self.keys[place] = None;
-        Some(key)
+        key
     }
 }
 

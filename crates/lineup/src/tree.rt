@@ -104,6 +104,10 @@ impl Tree {
             self.swap(i, up);
             i = up;
         }
+        // what has moved up ranks before all that stands below it now
+        if i < at {
+            return;
+        }
         while let Some(child) = self.least_child(i)
             && self.before(child, i)
         {

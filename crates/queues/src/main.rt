@@ -8,20 +8,41 @@ const SEED: u64 = 2026;
 
 const CALLS: usize = 6000;
 
-// How many of the calls are of a kind.
-fn count<F: Fn(&Step) -> bool>(steps: &[Step], is_of_kind: F) -> usize
-    requires can_be_asked { F.IsAlwaysCallable is_of_kind }
-{
-    steps.iter().filter(|step| is_of_kind(step)).count()
+// How many calls there are of each kind.
+#[derive(Clone, Copy, Default)]
+struct Calls {
+    puts: u64,
+    take_outs: u64,
+    keys: u64,
+    fronts: u64,
+    clears: u64,
+}
+
+// Counts the calls of each kind, in one pass.
+fn count_calls(steps: &[Step]) -> Calls {
+    let mut calls = Calls::default();
+    for step in steps {
+        let count = match step {
+            Step::Put { .. } => &mut calls.puts,
+            Step::TakeOut { .. } => &mut calls.take_outs,
+            Step::KeyOf { .. } => &mut calls.keys,
+            Step::Front => &mut calls.fronts,
+            Step::Clear => &mut calls.clears,
+        };
+        *count = count.saturating_add(1);
+    }
+    calls
 }
 
 // Says how many calls there are of each kind.
 fn show_calls(rt: &HostRuntime, steps: &[Step]) -> anyhow::Result<()> {
-    let puts = count(steps, |step| matches!(step, Step::Put { .. }));
-    let take_outs = count(steps, |step| matches!(step, Step::TakeOut { .. }));
-    let keys = count(steps, |step| matches!(step, Step::KeyOf { .. }));
-    let fronts = count(steps, |step| matches!(step, Step::Front));
-    let clears = count(steps, |step| matches!(step, Step::Clear));
+    let Calls {
+        puts,
+        take_outs,
+        keys,
+        fronts,
+        clears,
+    } = count_calls(steps);
     println!(rt;
         "{} calls, drawn from the seed {SEED}, the same for each line-up",
         steps.len()

@@ -33,10 +33,11 @@ pub fn order_length(format: u8, copies: u8) -> Result<u16, Refusal>
     ensures is_in_range { IfOk result (λ n. (1 ≤ n) × (n ≤ longest)) }
 {
     let feed = feed_length(format)?;
-    u16::from(copies)
-        .checked_mul(feed)
-        .filter(|len| (1..=LONGEST).contains(len))
-        .ok_or(Refusal::BadLength)
+    let len = u32::from(copies) * u32::from(feed);
+    if !(1..=u32::from(LONGEST)).contains(&len) {
+        return Err(Refusal::BadLength);
+    }
+    Ok(len as u16)
 }
 
 // The most copies of a format that make an order.

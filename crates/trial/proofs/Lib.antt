@@ -1,3 +1,2 @@
 mod Drawing
 mod Runs
-mod Scans

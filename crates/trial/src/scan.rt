@@ -2,7 +2,7 @@
 // It shares no code with the other kinds, since it is what they are compared with.
 ghost use Rattle.std.specs.Prelude.{◌≡◌, ◌≤◌, length, IfOk};
 ghost use Rattle.lineup.specs.Rolls.{most_places, no_keys};
-ghost use Rattle.lineup.specs.Front.{front_entry};
+ghost use Rattle.lineup.specs.Front.{entry_of, sooner_of, front_entry};
 
 use lineup::{Entry, LineUp, Roll, RollRefusal};
 use std::alloc::{AllocError, Global};
@@ -49,14 +49,33 @@ impl Roll for Scan {
     }
 }
 
+// The better of the best so far and one place more.
+fn better(best: Option<Entry>, place: usize, key: Option<u64>) -> Option<Entry>
+    ensures answers_the_better { result ≡ sooner_of best (entry_of place key) }
+{
+    match (best, key) {
+        (_, None) => best,
+        (None, Some(key)) => Some(Entry { place, key }),
+        (Some(so_far), Some(key)) => {
+            if key < so_far.key {
+                Some(Entry { place, key })
+            } else {
+                best
+            }
+        }
+    }
+}
+
 // The entry in front.
+#[tactic(auto, using(lineup::proofs::Joins::search_step))]
 fn soonest(keys: &[Option<u64>]) -> Option<Entry>
     ensures answers_the_front { result ≡ front_entry keys.now }
 {
-    keys.iter()
-        .enumerate()
-        .filter_map(|(place, key)| key.map(|key| Entry { place, key }))
-        .min_by_key(|e| e.key)
+    let mut best = None;
+    for (place, key) in keys.iter().enumerate() {
+        best = better(best, place, *key);
+    }
+    best
 }
 
 impl LineUp for Scan {

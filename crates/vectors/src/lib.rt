@@ -5,3 +5,5 @@
 mod claim_codes;
 #[cfg(test)]
 mod line_ups;
+#[cfg(test)]
+mod replies;

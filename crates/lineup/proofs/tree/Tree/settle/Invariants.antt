@@ -1,5 +1,5 @@
-use Rattle.std.proofs.Common.{◌≡◌, ◌-◌, ◌<◌}
-use Rattle.lineup.specs.Heaps.{ButAround, ButDown, Across}
+use Rattle.std.proofs.Common.{◌≡◌, ◌-◌, ◌<◌, ◌≤◌}
+use Rattle.lineup.specs.Heaps.{ButUp, ButAround, ButDown, Across}
 use Rattle.lineup.specs.Trees.{ranks}
 use Rattle.lineup.proofs.tree.Tree.settle.Given as goal
 
@@ -8,7 +8,9 @@ abbrev pub invariant-loop-up : goal.invariant-loop-up
 invariant-loop-up l =
     record {
       in_the_tree : l.i < l.self.len;
+      not_below : l.i ≤ l.at;
       same_keys : l.self.keys ≡ l.fn.self.keys;
+      but_up : l.i < l.at → ButUp (ranks l.self) l.self.len l.i;
       but_around : ButAround (ranks l.self) l.self.len l.i;
       across : Across (ranks l.self) l.self.len l.i;
     }
